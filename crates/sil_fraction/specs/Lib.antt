@@ -1,0 +1,4 @@
+pub mod Ratio
+pub mod Fraction
+pub mod Sum
+pub mod Laws
