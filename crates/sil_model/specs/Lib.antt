@@ -1,0 +1,10 @@
+pub mod LoopValue
+pub mod State
+pub mod Events
+pub mod Calendar
+pub mod Series
+pub mod Pay
+pub mod Figures
+pub mod Bands
+pub mod Sizes
+pub mod Counts

@@ -1,0 +1,52 @@
+-- How large the computation of a loop is, and its limits.
+use Rattle.std.specs.Prelude.{ℕ, ◌+◌, ◌*◌, ◌/◌, ◌^◌, List, [], ◌∷◌, length, sum_by, Option, Some, None, if◌then◌else◌, nat_lt}
+use Rattle.sil_model.specs.LoopValue.{LoopValue, groups_of}
+use Rattle.sil_model.specs.Calendar.{phases_of, test_hours_of, tests_at, beats_of, upto}
+use Rattle.sil_model.specs.declared.parts.Subsystem.{Subsystem}
+use Rattle.sil_model.specs.declared.parts.Group.{Group}
+use Rattle.sil_model.specs.declared.answers.LimitFault.{LimitFault}
+use Rattle.sil_model.specs.declared.answers.LimitFault.TheVariants.{TooManyTests, TooManyStates, TooManyBeats, TooMuchWork}
+
+-- in how many ways n equal channels share out over the four states: C(n + 3, 3)
+abbrev pub shares_of : ℕ → ℕ
+shares_of n = (n + 1) * (n + 2) * (n + 3) / 6
+
+abbrev pub states_over : List Group → ℕ
+states_over [] = 1
+states_over (g ∷ gs) = shares_of g.size * states_over gs
+
+-- the lumped states: how many count vectors the groups have together
+unfoldable pub states_of : List Subsystem → ℕ
+states_of us = states_over (groups_of us)
+
+-- the beats of all phases
+unfoldable pub all_beats_of : LoopValue → ℕ
+all_beats_of l = sum_by (λ p. beats_of l.subsystems p.hours) (phases_of l)
+
+-- beats times order times states
+unfoldable pub work_of : LoopValue → ℕ → ℕ
+work_of l order = all_beats_of l * order * states_of l.subsystems
+
+-- the tests of channels, each channel at each hour counted as one
+unfoldable pub channel_tests_of : LoopValue → ℕ
+channel_tests_of l = sum_by (λ t. length (tests_at l t)) (upto 0 l.mission)
+
+abbrev pub most_tests : ℕ
+most_tests = 4096
+
+abbrev pub most_states : ℕ
+most_states = 4096
+
+abbrev pub most_beats : ℕ
+most_beats = 1_000_000
+
+abbrev pub most_work : ℕ
+most_work = 2 ^ 34
+
+-- the first limit that is exceeded, in this order, with the count that exceeds it
+unfoldable pub first_limit_of : LoopValue → ℕ → Option LimitFault
+first_limit_of l order =
+    if nat_lt most_tests (channel_tests_of l) then Some (TooManyTests (channel_tests_of l)) else
+    if nat_lt most_states (states_of l.subsystems) then Some (TooManyStates (states_of l.subsystems)) else
+    if nat_lt most_beats (all_beats_of l) then Some (TooManyBeats (all_beats_of l)) else
+    if nat_lt most_work (work_of l order) then Some (TooMuchWork (work_of l order)) else None
