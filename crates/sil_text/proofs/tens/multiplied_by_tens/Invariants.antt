@@ -1,0 +1,5 @@
+use Rattle.std.proofs.Common.{◌≡◌, ◌*◌, ◌^◌}
+use Rattle.sil_text.proofs.tens.multiplied_by_tens.Given as goal
+
+abbrev pub invariant-loop-tens : goal.invariant-loop-tens
+invariant-loop-tens l = l.product ≡ l.number * 10 ^ l._tens
