@@ -1,0 +1,27 @@
+use Rattle.std.proofs.Common.{◌≡◌, Some, None, refl, ◌∙◌, ap, sym, subst, Option, List, ℕ, IsSome, rules}
+use Rattle.std.specs.List.{position}
+use Rattle.sil_io.specs.ShelfState.{bytes_under, bytes_at, has_name}
+use Rattle.sil_io.proofs.Files.{bytes_under-place, bytes_under-None}
+use Rattle.sil_io.proofs.memory_shelf.MemShelfShelf.pick.Goals as goal
+
+pub returns-in-Some-clause-whole : goal.returns-in-Some-clause-whole
+returns-in-Some-clause-whole c =
+    let place_is : position (has_name c.args.name.now) c.self.inside.files.items ≡ Some c.in-Some.place =
+    ap (position (has_name c.args.name.now)) (sym c.deref.ensures.value) ∙ sym c.in-Some.ensures in
+    ap (λ s. bytes_under s.files c.args.name.now) (sym c.self.view_is)
+    ∙ bytes_under-place c.args.name.now c.self.inside.files.items c.in-Some.place place_is
+
+pub returns-in-Some-clause-found : goal.returns-in-Some-clause-found
+returns-in-Some-clause-found c =
+    let found : bytes_under c.args.self.now.files c.args.name.now ≡ Some (bytes_at c.self.inside.files.items c.in-Some.place) =
+    returns-in-Some-clause-whole c in
+    (λ t. let P : Option (List ℕ) → Type 0 = IsSome in subst P (sym found) (search rules), λ s. refl)
+
+pub returns-in-None-clause-found : goal.returns-in-None-clause-found
+returns-in-None-clause-found c =
+    let place_is : position (has_name c.args.name.now) c.self.inside.files.items ≡ None =
+    ap (position (has_name c.args.name.now)) (sym c.deref.ensures.value) ∙ sym c.in-None.ensures in
+    let missing : bytes_under c.args.self.now.files c.args.name.now ≡ None =
+    ap (λ s. bytes_under s.files c.args.name.now) (sym c.self.view_is)
+    ∙ bytes_under-None c.args.name.now c.self.inside.files.items place_is in
+    (λ never. cc, λ found. let P : Option (List ℕ) → Type 0 = IsSome in subst P missing found)

@@ -1,0 +1,25 @@
+use Rattle.std.proofs.Common.{◌+◌, ◌-◌, ◌≤◌, ◌++◌, take, drop, length, arith, ◌∙◌, ap, sym}
+use Rattle.std.proofs.lemmas.List.{length-take}
+use Rattle.sil_io.proofs.Buffers.{take-filled, taken-more}
+use Rattle.sil_io.proofs.reading.read_to_limit.Goals as goal
+
+pub loop-preserved : goal.loop-preserved
+loop-preserved g c =
+    let within : c.in-Ok.count ≤ length c.read.new.buf = c.in-Ok.ensures.within in
+    let len = c.deref_mut.ensures.len in
+    let kept : length c.read.new.buf ≤ length c.deref_mut.result.now - c.loop.filled =
+    omega (arith, c.read.auto.buf, length-take (length c.deref_mut.result.now - c.loop.filled) (drop c.loop.filled c.deref_mut.result.now)) in
+    let in_range : c.loop.filled + c.in-Ok.count ≤ c.args.limit + 1 = omega arith in
+    let in_buffer : c.loop.filled ≤ length c.deref_mut.result.now = omega arith in
+    record {
+      counted = let some = c.in-Ok.count-test.1 in omega arith;
+      in_range = in_range;
+      room = c.loop.invariant.room;
+      taken = λ told. taken-more c.loop.filled c.in-Ok.count _ c.deref_mut.result.now (g.S.Shelf.left c.loop.shelf) c.read.new.buf _ _
+          (c.loop.invariant.taken told ∙ ap (λ xs. take c.loop.filled xs ++ g.S.Shelf.left c.loop.shelf) (sym c.deref_mut.ensures.value))
+          (take-filled c.loop.filled c.in-Ok.count _ c.deref_mut.result.now c.read.new.buf _ _ in_buffer within (omega arith))
+          (c.in-Ok.ensures.given told) (c.in-Ok.ensures.rest told);
+      picked_stays = cc;
+      files_stay = λ told name. c.in-Ok.ensures.files_stay told name ∙ c.loop.invariant.files_stay told name;
+      faults_never_fall = omega arith;
+    }

@@ -1,0 +1,6 @@
+pub mod Bytes
+pub mod Faults
+pub mod Outside
+pub mod Reading
+pub mod ShelfState
+pub mod SinkState

@@ -1,0 +1,175 @@
+//! A shelf in memory, which tells its bytes.
+ghost use Rattle.std.specs.Prelude.{◌≡◌, ◌≢◌, ℕ, ◌+◌, ◌≤◌, ◌<◌, ◌++◌, ◌↔◌, List, [], Some, None, true, false, length, take, drop, min, is_ok, IsOk, IsSome, IfOk, OnOk, OnErr};
+ghost use Rattle.std.specs.List.{position};
+ghost use Rattle.sil_io.specs.Faults.{CountsFault, counted};
+ghost use Rattle.sil_io.specs.ShelfState.{ShelfState, bytes_under, has_name};
+
+use crate::reading::Shelf;
+use crate::writing::Failed;
+use std::alloc::{AllocError, Global};
+use std::marker::Model;
+
+// A file: its name and its bytes.
+#[derive(Drop)]
+struct StoredFile {
+    name: String,
+    bytes: Vec<u8>,
+}
+
+impl Model for StoredFile {
+    ghost use Rattle.std.specs.Prelude.{string_bytes};
+    ghost use Rattle.sil_io.specs.ShelfState.{NamedBytes};
+
+    ghost Value = { NamedBytes };
+
+    ghost view = { λ f. record { name = string_bytes f.name; bytes = f.bytes.items } };
+}
+
+// Which file is picked, by its place, and how many of its bytes are read.
+#[derive(Clone, Copy)]
+struct Reading {
+    place: usize,
+    read: usize,
+}
+
+/// A shelf whose files are kept in memory.
+#[derive(Drop)]
+pub struct MemShelf {
+    alloc: Global,
+    files: Vec<StoredFile>,
+    reading: Option<Reading>,
+    faults: u64,
+}
+
+impl Model for MemShelf {
+    ghost use Rattle.std.specs.Prelude.{is_some};
+    ghost use Rattle.sil_io.specs.ShelfState.{ShelfState};
+    ghost use Rattle.sil_io.specs.Reading.{left_of, IsReading};
+
+    ghost Value = { ShelfState };
+
+    ghost view = { λ s. record { files = s.files.items; picked = is_some s.reading; left = left_of s.files.items s.reading; faults = s.faults } };
+
+    ghost invariant = { λ s. IsReading s.files.items s.reading };
+}
+
+impl MemShelf {
+    /// A shelf without files.
+    pub fn new(alloc: Global) -> MemShelf
+        ensures { result ≡ record { files = []; picked = false; left = []; faults = 0 } }
+    {
+        MemShelf {
+            alloc,
+            files: Vec::new(alloc),
+            reading: None,
+            faults: 0,
+        }
+    }
+
+    /// Puts the bytes under the name, in place of those that are there. Afterwards no file is picked. Without memory
+    /// the shelf is as before.
+    pub fn put(&mut self, name: &str, bytes: &[u8]) -> Result<(), AllocError>
+        ensures put { OnOk result (bytes_under self.new.files name.now ≡ Some bytes.now) }
+        ensures others_stay { OnOk result ((other : List ℕ) → other ≢ name.now → bytes_under self.new.files other ≡ bytes_under self.old.files other) }
+        ensures unpicked { OnOk result (self.new.picked ≡ false) }
+        ensures nothing_left { OnOk result (self.new.left ≡ []) }
+        ensures faults_stay { self.new.faults ≡ self.old.faults }
+        ensures refused { OnErr result (self.new ≡ self.old) }
+    {
+        let file = StoredFile {
+            name: String::from_str(self.alloc, name)?,
+            bytes: Vec::from_slice(self.alloc, bytes)?,
+        };
+        store(&mut self.files, file)?;
+        self.reading = None;
+        Ok(())
+    }
+}
+
+// Puts a file in the place of the one of its name, or at the end where there is none.
+fn store(files: &mut Vec<StoredFile>, file: StoredFile) -> Result<(), AllocError>
+    ensures put { OnOk result (bytes_under files.new.items file.name ≡ Some file.bytes) }
+    ensures others_stay { OnOk result ((other : List ℕ) → other ≢ file.name → bytes_under files.new.items other ≡ bytes_under files.old.items other) }
+    ensures refused { OnErr result (files.new.items ≡ files.old.items) }
+{
+    match place_of(files, file.name.as_str()) {
+        Some(place) => files[place] = file,
+        None => files.push(file)?,
+    }
+    Ok(())
+}
+
+// The place of the first file of this name.
+fn place_of(files: &[StoredFile], name: &str) -> Option<usize>
+    ensures { result ≡ position (has_name name.now) files.now }
+{
+    files.iter().position(|file| file.name.as_str() == name)
+}
+
+// Copies the first bytes to the front of the buffer, as many as fit, and answers how many.
+fn give(bytes: &[u8], buf: &mut [u8]) -> usize
+    ensures count { result ≡ min (length buf.old) (length bytes.now) }
+    ensures given { buf.new ≡ take result bytes.now ++ drop result buf.old }
+{
+    let count = buf.len().min(bytes.len());
+    buf[..count].copy_from_slice(&bytes[..count]);
+    count
+}
+
+impl Shelf for MemShelf {
+    ghost tells = { true };
+
+    ghost file = { λ s name. bytes_under s.files name };
+
+    ghost picked = { λ s. s.picked };
+
+    ghost left = { λ s. s.left };
+
+    ghost faults = { λ s. s.faults };
+
+    /// Fails for a name that the shelf does not hold, and for no other.
+    fn pick(&mut self, name: &str) -> Result<(), Failed>
+        ensures found { IsOk result ↔ IsSome (bytes_under self.old.files name.now) }
+        ensures files_stay { self.new.files ≡ self.old.files }
+        ensures picked { self.new.picked ≡ is_ok result }
+        ensures whole { OnOk result (bytes_under self.old.files name.now ≡ Some self.new.left) }
+        ensures nothing_left { OnErr result (self.new.left ≡ []) }
+        ensures faults_never_fall { self.old.faults ≤ self.new.faults }
+        ensures no_fault { OnOk result (self.new.faults ≡ self.old.faults) }
+        ensures failed { OnErr result (self.new.faults ≡ counted self.old.faults) }
+    {
+        match place_of(&self.files, name) {
+            Some(place) => {
+                self.reading = Some(Reading { place, read: 0 });
+                Ok(())
+            }
+            None => {
+                self.reading = None;
+                self.faults = self.faults.saturating_add(1);
+                Err(Failed)
+            }
+        }
+    }
+
+    /// Never fails, and gives as many bytes as the buffer and the rest of the file allow.
+    fn read(&mut self, buf: &mut [u8]) -> Result<usize, Failed>
+        ensures never_fails { IsOk result }
+        ensures count { IfOk result (λ n. n ≡ min (length buf.old) (length self.old.left)) }
+        ensures buffer { IfOk result (λ n. buf.new ≡ take n self.old.left ++ drop n buf.old) }
+        ensures left { IfOk result (λ n. self.new.left ≡ drop n self.old.left) }
+        ensures files_stay { self.new.files ≡ self.old.files }
+        ensures picked_stays { self.new.picked ≡ self.old.picked }
+        ensures unpicked { self.old.picked ≡ false → self.old.left ≡ [] }
+        ensures no_fault { self.new.faults ≡ self.old.faults }
+    {
+        let Some(reading) = self.reading else {
+            return Ok(0);
+        };
+        let count = give(&self.files[reading.place].bytes[reading.read..], buf);
+        self.reading = Some(Reading {
+            place: reading.place,
+            read: reading.read + count,
+        });
+        Ok(count)
+    }
+}

@@ -1,0 +1,99 @@
+//! Reading a picked file whole.
+ghost use Rattle.std.specs.Prelude.{◌≡◌, ℕ, ◌+◌, ◌≤◌, ◌<◌, ◌^◌, Bool, true, false, List, [], Option, take, drop, length, vec_len, is_ok, IsTrue, IfOk, OnOk, OnErr, IsErrOf};
+ghost use Rattle.sil_io.specs.Faults.{CountsFault};
+
+use crate::writing::Failed;
+use std::alloc::{AllocError, Global};
+use thiserror::Error;
+
+/// A collection of files by name, of which one is picked and then read.
+pub trait Shelf {
+    // whether the shelf tells which bytes its files have
+    ghost tells: { Bool };
+
+    // the bytes of the file under a name, where told
+    ghost file: { Self → List ℕ → Option (List ℕ) };
+
+    // whether a file is picked
+    ghost picked: { Self → Bool };
+
+    // the bytes of the picked file that are not read yet, where told
+    ghost left: { Self → List ℕ };
+
+    // how many picks and reads failed; it stands still at 2^64 - 1
+    ghost faults: { Self → ℕ };
+
+    /// Picks the file of this name, to be read from its start. After `Failed` no file is picked.
+    fn pick(&mut self, name: &str) -> Result<(), Failed>
+        ensures picked { picked self.new ≡ is_ok result }
+        ensures whole { OnOk result (IsTrue tells → file self.old name.now ≡ Some (left self.new)) }
+        ensures nothing_left { OnErr result (IsTrue tells → left self.new ≡ []) }
+        ensures files_stay { IsTrue tells → (other : List ℕ) → file self.new other ≡ file self.old other }
+        ensures faults_never_fall { faults self.old ≤ faults self.new }
+        ensures failed { OnErr result (CountsFault (faults self.old) (faults self.new)) };
+
+    /// Moves the next bytes of the picked file to the front of the buffer, and answers how many. 0 for a buffer with
+    /// room is the end of the file, and so is any read while no file is picked. After `Failed` no clause says what is
+    /// left of the file.
+    fn read(&mut self, buf: &mut [u8]) -> Result<usize, Failed>
+        ensures within { IfOk result (λ n. n ≤ length buf.new) }
+        ensures given { IfOk result (λ n. IsTrue tells → take n buf.new ≡ take n (left self.old)) }
+        ensures rest { IfOk result (λ n. IsTrue tells → left self.new ≡ drop n (left self.old)) }
+        ensures end { result ≡ Ok 0 → 0 < length buf.old → IsTrue tells → left self.old ≡ [] }
+        ensures unpicked { picked self.old ≡ false → IfOk result (λ n. n ≡ 0) }
+        ensures picked_stays { picked self.new ≡ picked self.old }
+        ensures files_stay { IsTrue tells → (name : List ℕ) → file self.new name ≡ file self.old name }
+        ensures faults_never_fall { faults self.old ≤ faults self.new }
+        ensures failed { OnErr result (CountsFault (faults self.old) (faults self.new)) };
+}
+
+/// Why a file was not read whole.
+#[derive(Debug, Drop, Error)]
+pub enum ReadFault {
+    /// No memory for the bytes.
+    #[error(transparent)]
+    Memory(AllocError),
+    /// A read failed.
+    #[error("the file is not readable")]
+    Failed,
+    /// There are more bytes than the limit.
+    #[error("the file is too long")]
+    TooLong,
+}
+
+/// Reads the picked file to its end, if at most `limit` bytes of it are left.
+///
+/// Memory for one byte more than the limit is taken at once, before the first read.
+pub fn read_to_limit<S: Shelf>(
+    alloc: Global,
+    shelf: &mut S,
+    limit: usize,
+) -> Result<Vec<u8>, ReadFault>
+    requires { limit < 2 ^ 31 }
+    ensures all { IfOk result (λ bytes. IsTrue S.tells → bytes.items ≡ S.left shelf.old) }
+    ensures nothing_left { OnOk result (IsTrue S.tells → S.left shelf.new ≡ []) }
+    ensures within { IfOk result (λ bytes. vec_len bytes ≤ limit) }
+    ensures too_long { IsErrOf result ReadFault.TooLong → IsTrue S.tells → limit < length (S.left shelf.old) }
+    ensures failed { IsErrOf result ReadFault.Failed → CountsFault (S.faults shelf.old) (S.faults shelf.new) }
+    ensures picked_stays { S.picked shelf.new ≡ S.picked shelf.old }
+    ensures files_stay { IsTrue S.tells → (name : List ℕ) → S.file shelf.new name ≡ S.file shelf.old name }
+    ensures faults_never_fall { S.faults shelf.old ≤ S.faults shelf.new }
+{
+    let mut bytes = vec![in alloc; 0; limit + 1].map_err(ReadFault::Memory)?;
+    let mut filled = 0;
+    // Each turn but the last takes a byte or more.
+    for _ in 0..limit + 2 {
+        if filled > limit {
+            break;
+        }
+        match shelf.read(&mut bytes[filled..]) {
+            Err(Failed) => return Err(ReadFault::Failed),
+            Ok(0) => {
+                bytes.truncate(filled);
+                return Ok(bytes);
+            }
+            Ok(count) => filled += count,
+        }
+    }
+    Err(ReadFault::TooLong)
+}

@@ -1,0 +1,61 @@
+//! Writing a text whole.
+ghost use Rattle.std.specs.Prelude.{◌≡◌, ℕ, ◌≤◌, ◌<◌, ◌++◌, Bool, List, take, length, IsTrue, IfOk, OnOk, OnErr};
+ghost use Rattle.sil_io.specs.Faults.{CountsFault};
+ghost use Rattle.sil_io.specs.Bytes.{AppendsPart};
+
+use thiserror::Error;
+
+/// A read or a write that failed. The count of faults of the shelf or the sink tells of it too.
+#[derive(Clone, Copy, Debug, PartialEq, Eq, Error)]
+#[error("the read or the write failed")]
+pub struct Failed;
+
+/// A place that bytes are written to.
+pub trait Sink {
+    // whether the sink tells which bytes were written
+    ghost tells: { Bool };
+
+    // the bytes written so far, where told
+    ghost written: { Self → List ℕ };
+
+    // how many writes failed or stalled; it stands still at 2^64 - 1
+    ghost faults: { Self → ℕ };
+
+    /// Writes the first bytes of a piece, and answers how many it took. After `Failed` the bytes written are as
+    /// before.
+    fn write(&mut self, bytes: &[u8]) -> Result<usize, Failed>
+        ensures within { IfOk result (λ n. n ≤ length bytes.now) }
+        ensures appended { IfOk result (λ n. IsTrue tells → written self.new ≡ written self.old ++ take n bytes.now) }
+        ensures unchanged { OnErr result (IsTrue tells → written self.new ≡ written self.old) }
+        ensures faults_never_fall { faults self.old ≤ faults self.new }
+        ensures failed { OnErr result (CountsFault (faults self.old) (faults self.new)) };
+
+    /// Counts a stall: a write that took nothing of a piece that has bytes.
+    fn note_stall(&mut self)
+        ensures unchanged { IsTrue tells → written self.new ≡ written self.old }
+        ensures faults_never_fall { faults self.old ≤ faults self.new }
+        ensures counted { CountsFault (faults self.old) (faults self.new) };
+}
+
+/// Writes all the bytes, in as many writes as the sink wants.
+///
+/// A write that takes nothing while bytes are left is a stall: the sink counts it, and the answer is `Failed`. After
+/// `Failed` the sink holds a part of the bytes from their start on, and never all of them.
+pub fn write_whole<K: Sink>(sink: &mut K, bytes: &[u8]) -> Result<(), Failed>
+    ensures whole { OnOk result (IsTrue K.tells → K.written sink.new ≡ K.written sink.old ++ bytes.now) }
+    ensures part { OnErr result (IsTrue K.tells → AppendsPart (K.written sink.old) (K.written sink.new) bytes.now) }
+    ensures not_for_nothing { OnErr result (0 < length bytes.now) }
+    ensures faults_never_fall { K.faults sink.old ≤ K.faults sink.new }
+    ensures failed { OnErr result (CountsFault (K.faults sink.old) (K.faults sink.new)) }
+{
+    let mut done = 0;
+    while done < bytes.len() {
+        let count = sink.write(&bytes[done..])?;
+        if count == 0 {
+            sink.note_stall();
+            return Err(Failed);
+        }
+        done += count;
+    }
+    Ok(())
+}
