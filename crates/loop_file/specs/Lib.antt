@@ -1,0 +1,5 @@
+pub mod Walk
+pub mod Paths
+pub mod Readings
+pub mod Tree
+pub mod LoopFile
