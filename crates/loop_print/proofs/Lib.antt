@@ -1,0 +1,3 @@
+pub mod Puts
+pub mod Printed
+pub mod RoundTrip

@@ -1,0 +1,19 @@
+use Rattle.std.proofs.Common.{◌≡◌, ◌∙◌, sym, ap, Err, false}
+use Rattle.std.proofs.lemmas.Str.{is_utf8-from_IsUtf8, IsUtf8-string_bytes}
+use Rattle.std.proofs.lemmas.Bool.{false≢true}
+use Rattle.std.specs.String.{string_bytes}
+use Rattle.toml.specs.Data.{members_have_valid_dates}
+use Rattle.toml.specs.View.{table_view}
+use Rattle.loop_print.proofs.RoundTrip.{canonical_tree, canonical_is_loop, canonical_dates}
+use Rattle.loop_print.proofs.print.print_loop.Goals as goal
+
+pub returns-in-Ok : goal.returns-in-Ok
+returns-in-Ok c =
+    let same = c.in_ok-table.ensures.table in
+    let tree = canonical_tree c.args.l.now (string_bytes c.in-Ok.text) (is_utf8-from_IsUtf8 _ (IsUtf8-string_bytes c.in-Ok.text)) (rw same at c.in-Ok.ensures.reads_back) in
+    record { canonical = tree; reads_back = canonical_is_loop c.args.l.now (string_bytes c.in-Ok.text) c.in_ok-table.ensures.valid tree }
+
+pub unreachable-requires : goal.unreachable-requires
+unreachable-requires c =
+    let invalid : members_have_valid_dates (table_view c.in_ok-table.table) ≡ false = c.table_to_string.ensures.dates.0 (c.in-Err-DateInvalid.is ∙ ap Err c.in-Err-DateInvalid.field-0-is) in
+    false≢true (sym invalid ∙ ap members_have_valid_dates c.in_ok-table.ensures.table ∙ canonical_dates c.args.l.now)

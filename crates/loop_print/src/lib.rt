@@ -1,0 +1,12 @@
+//! Loops printed as loop files.
+//!
+//! [`print_loop`] prints the canonical file of a loop: version, mission time, order, and each subsystem with every key. What
+//! `loop_file` reads of it is the same loop again.
+#![tactic(auto)]
+
+mod print;
+
+pub use print::print_loop;
+
+#[cfg(test)]
+mod tests;
