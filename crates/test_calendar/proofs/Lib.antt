@@ -1,0 +1,13 @@
+pub mod Ceiling
+pub mod Steps
+pub mod ChannelCounts
+pub mod TestedGroups
+pub mod Spread
+pub mod TestHours
+pub mod PhaseList
+pub mod InRange
+pub mod Rates
+pub mod GroupPlans
+pub mod Stops
+pub mod Views
+pub mod PhasesOfLoop

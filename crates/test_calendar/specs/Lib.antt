@@ -1,0 +1,5 @@
+pub mod GroupTests
+pub mod Repeats
+pub mod Plans
+pub mod Counts
+pub mod PlanParts
