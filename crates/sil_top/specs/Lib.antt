@@ -1,0 +1,4 @@
+pub mod PlainLoop
+pub mod Weighs
+pub mod Report
+pub mod Run

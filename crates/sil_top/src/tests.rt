@@ -1,0 +1,351 @@
+//! Runs over a shelf and a sink in memory.
+
+use super::*;
+use sil_io::{MemShelf, MemSink};
+use std::test::Fail;
+
+/// The status and the text of a run over a shelf that holds one file, `loop.toml`.
+fn ran(
+    alloc: Global,
+    words: &str,
+    file: &[u8],
+    fail_after: usize,
+) -> Result<(Status, String), Fail> {
+    let mut shelf = MemShelf::new(alloc);
+    shelf.put("loop.toml", file)?;
+    let mut sink = MemSink::new(alloc, 1000)?;
+    sink.fail_after(fail_after);
+    let mut owned: Vec<String> = Vec::new(alloc);
+    for word in words.split_whitespace() {
+        owned.push(String::from_str(alloc, word)?)?;
+    }
+    let status = run(alloc, &owned, &mut shelf, &mut sink);
+    let text = std::str::from_utf8(sink.bytes()).map_err(|_| "no text")?;
+    Ok((status, String::from_str(alloc, text)?))
+}
+
+const ONE_CHANNEL: &str =
+    "version = 1\nmission = 8760\n[[subsystem]]\nname = \"sif\"\nvote = \"1oo1\"\ndu = \"1.0E-6\"\nrepair = 8\n";
+
+/// Sensors, logic and valves, each tested once a year.
+const THREE_SUBSYSTEMS: &str =
+    "version = 1\nmission = 26280\n\n[[type]]\nname = \"plant\"\nrepair = 24\n\n\
+    [[subsystem]]\nname = \"sensors\"\ntype = \"plant\"\nvote = \"2oo3\"\ndu = \"5.0E-7\"\ndd = \"2.0E-6\"\ntest = { every = 8760 }\n\n\
+    [[subsystem]]\nname = \"logic\"\ntype = \"plant\"\nvote = \"1oo1\"\ndu = \"1.0E-7\"\ndd = \"9.0E-7\"\ntest = { every = 8760 }\n\n\
+    [[subsystem]]\nname = \"valves\"\ntype = \"plant\"\nvote = \"1oo2\"\ndu = \"2.0E-6\"\ntest = { every = 8760 }\n";
+
+/// The file of one channel with some of its text replaced, and with more text at its end.
+fn changed(alloc: Global, part: &str, by: &str, more: &str) -> Result<String, AllocError> {
+    let mut file = ONE_CHANNEL.replacen(alloc, part, by, 1)?;
+    file.push_str(more)?;
+    Ok(file)
+}
+
+/// A figure with 18 decimals, in units of 10^-18.
+fn units(figure: &str) -> u128 {
+    let mut units = 0u128;
+    for byte in figure.bytes() {
+        if byte.is_ascii_digit() {
+            units = units
+                .wrapping_mul(10)
+                .wrapping_add(u128::from(byte.wrapping_sub(b'0')));
+        }
+    }
+    units
+}
+
+/// What is changed in the file of one channel, the lines before the interval, two neighbours that the interval holds and
+/// the band. The figures are closed forms: PFDavg is `1 - (1 - e^-x)/x` with x the rate times the mission time.
+#[test]
+fn reports_of_plain_loops(rt: HostRuntime) -> Result<(), Fail> {
+    let alloc = rt.alloc();
+    let cases = [
+        (
+            "",
+            "",
+            "mission 8760\nphases 1\nstates 4\nbeats 1096\norder 28\npfd ",
+            4_367_238_360_223_395,
+            4_367_238_360_223_396,
+            " SIL 2\n",
+        ),
+        (
+            "1.0E-6",
+            "0",
+            "mission 8760\nphases 1\nstates 4\nbeats 1095\norder 28\npfd 0.000000000000000000 .. ",
+            0,
+            0,
+            " beyond SIL 4\n",
+        ),
+        (
+            "mission = 8760",
+            "order = 28\nmission = 1",
+            "mission 1\nphases 1\nstates 4\nbeats 1\norder 28\npfd ",
+            499_999_833_333,
+            499_999_833_334,
+            " beyond SIL 4\n",
+        ),
+    ];
+    for (part, by, head, low, high, band) in cases {
+        let file = changed(alloc, part, by, "")?;
+        let (status, text) = ran(alloc, "check loop.toml", file.as_bytes(), 1000)?;
+        assert_eq!(rt; status, Status::Done, "{by}");
+        assert!(rt; text.as_str().starts_with(head), "{text}");
+        assert!(rt; text.as_str().ends_with(band), "{text}");
+        let (_, line) = text.as_str().split_once("pfd ").ok_or("no interval")?;
+        let (lo, rest) = line.split_once(" .. ").ok_or("no ends")?;
+        let (hi, _) = rest.split_once(' ').ok_or("no band")?;
+        assert!(rt; units(lo) <= low && high <= units(hi), "{text}");
+    }
+    Ok(())
+}
+
+/// What is changed in the file of one channel, what stands at its end, and what `size` tells of it.
+#[test]
+fn sizes_and_limits(rt: HostRuntime) -> Result<(), Fail> {
+    let alloc = rt.alloc();
+    let done = Status::Done;
+    let refused = Status::FileRefused;
+    let cases = [
+        (
+            "",
+            "",
+            "",
+            done,
+            "mission 8760\nphases 1\nstates 4\nbeats 1096\norder 28\nwork 122752\n",
+        ),
+        (
+            "8760\n[[subsystem]]\nname = \"sif\"\nvote = \"1oo1\"",
+            "100\n[[subsystem]]\nname = \"sif\"\nvote = \"1oo6\"",
+            "test = { first = 10, every = 100, stagger = 10 }",
+            done,
+            "mission 100\nphases 7\nstates 4096\nbeats 79\norder 28\nwork 9060352\n",
+        ),
+        (
+            "8760\n[[subsystem]]\nname = \"sif\"\nvote = \"1oo1\"",
+            "100\n[[subsystem]]\nname = \"sif\"\nvote = \"1oo6\"",
+            "test = { first = 10, every = 100, stagger = 10 }\n[[subsystem]]\nname = \"b\"\nvote = \"1oo1\"\ndu = \"0\"\nrepair = 8",
+            refused,
+            "refused: 16384 states, limit 4096\n",
+        ),
+        (
+            "8760\n[[subsystem]]\nname = \"sif\"\nvote = \"1oo1\"\ndu = \"1.0E-6\"\nrepair = 8",
+            "250000\n[[subsystem]]\nname = \"sif\"\nvote = \"1oo4\"\ndu = \"0\"\nrepair = 1",
+            "",
+            done,
+            "mission 250000\nphases 1\nstates 35\nbeats 1000000\norder 28\nwork 980000000\n",
+        ),
+        (
+            "8760\n[[subsystem]]\nname = \"sif\"\nvote = \"1oo1\"\ndu = \"1.0E-6\"\nrepair = 8",
+            "250001\n[[subsystem]]\nname = \"sif\"\nvote = \"1oo4\"\ndu = \"0\"\nrepair = 1",
+            "",
+            refused,
+            "refused: 1000004 beats, limit 1000000\n",
+        ),
+        (
+            "8760\n[[subsystem]]\nname = \"sif\"\nvote = \"1oo1\"\ndu = \"1.0E-6\"\nrepair = 8",
+            "350400\n[[subsystem]]\nname = \"sif\"\nvote = \"1oo3\"\ndu = \"1.0E-6\"\nrepair = 1",
+            "",
+            refused,
+            "refused: 1051202 beats, limit 1000000\n",
+        ),
+        (
+            "8760",
+            "4097",
+            "test = { every = 1 }",
+            done,
+            "mission 4097\nphases 4097\nstates 4\nbeats 4097\norder 28\nwork 458864\n",
+        ),
+        (
+            "8760",
+            "4098",
+            "test = { every = 1 }",
+            refused,
+            "refused: 4097 channel tests, limit 4096\n",
+        ),
+        (
+            "8760\n[[subsystem]]\nname = \"sif\"\nvote = \"1oo1\"",
+            "350400\n[[subsystem]]\nname = \"sif\"\nvote = \"1oo6\"",
+            "test = { first = 175200, every = 350400, stagger = 1 }",
+            refused,
+            "refused: work 30140579840, limit 17179869184\n",
+        ),
+    ];
+    for (part, by, more, status, text) in cases {
+        let file = changed(alloc, part, by, more)?;
+        let answer = ran(alloc, "size loop.toml", file.as_bytes(), 1000)?;
+        assert_eq!(rt; (answer.0, answer.1.as_str()), (status, text), "{by}");
+    }
+    Ok(())
+}
+
+/// The loop of three subsystems, also where its valves are tested one by one.
+#[test]
+fn sizes_of_three_subsystems(rt: HostRuntime) -> Result<(), Fail> {
+    let alloc = rt.alloc();
+    let (status, text) = ran(alloc, "size loop.toml", THREE_SUBSYSTEMS.as_bytes(), 1000)?;
+    assert_eq!(rt; status, Status::Done);
+    assert_eq!(rt;
+        text.as_str(),
+        "mission 26280\nphases 3\nstates 800\nbeats 6573\norder 28\nwork 147235200\n"
+    );
+    let staggered = THREE_SUBSYSTEMS.replacen(
+        alloc,
+        "du = \"2.0E-6\"\ntest = { every = 8760 }",
+        "du = \"2.0E-6\"\ntest = { every = 8760, stagger = 4380 }",
+        1,
+    )?;
+    let (status, text) = ran(alloc, "size loop.toml", staggered.as_bytes(), 1000)?;
+    assert_eq!(rt; status, Status::Done);
+    assert_eq!(rt;
+        text.as_str(),
+        "mission 26280\nphases 5\nstates 1280\nbeats 6575\norder 28\nwork 235648000\n"
+    );
+    let (status, text) = ran(alloc, "check loop.toml", THREE_SUBSYSTEMS.as_bytes(), 1000)?;
+    assert_eq!(rt;
+        (status, text.as_str()),
+        (Status::NotBuilt, "refused: not built\n")
+    );
+    Ok(())
+}
+
+/// A line of each refused file: what is replaced in the file of one channel, by what, what stands at its end, and the
+/// fault. `;` stands for a line feed.
+const REFUSED: &str = r#""1.0E-6"|1e-6||wrong kind subsystem[0].du
+1.0E-6|1E-13||text subsystem[0].du too fine
+1.0E-6|0.0011||text subsystem[0].du too large
+1.0E-6|1E||text subsystem[0].du not a decimal
+1oo1|3oo2||vote subsystem[0].vote
+||[[subsystem]];name = "sif"|same name subsystem[1].name
+version = 1|version = 7||version 7
+version = 1|version = "1"||wrong kind version
+||du_rate = 1|unknown key subsystem[0].du_rate
+||type = "x"|unknown type subsystem[0].type
+8760|0||out of range mission
+8760|350401||out of range mission
+8760|0;zz = 1||unknown key zz
+8760|8760;"\u00e9" = 1||unknown key ??
+8760|8760;order = 15||out of range order
+8760|8760;order = 41||out of range order
+8760|8760;type = 3||wrong kind type
+8760|8760;type = [1]||wrong kind type[0]
+8760|8760;mission = 8760||not TOML
+8760|99999999999999999999||not TOML
+8760|8760.0||wrong kind mission
+8760|1979-05-27||wrong kind mission
+.0E-6"|||not TOML
+name = "sif"|name = ""||text subsystem[0].name not a name
+||in_repair = "off"|text subsystem[0].in_repair not a choice
+||test = 5|wrong kind subsystem[0].test
+||test = {}|missing subsystem[0].test.every
+||test = { every = 0 }|out of range subsystem[0].test.every
+repair = 8|repair = 8761||out of range subsystem[0].repair"#;
+
+/// Both verbs print the same line of a refused file.
+#[test]
+fn refused_files(rt: HostRuntime) -> Result<(), Fail> {
+    let alloc = rt.alloc();
+    for case in REFUSED.lines() {
+        let (part, rest) = case.split_once('|').ok_or("no part")?;
+        let (by, rest) = rest.split_once('|').ok_or("no change")?;
+        let (more, fault) = rest.split_once('|').ok_or("no fault")?;
+        let file = changed(alloc, part, by, more)?.replace(alloc, ";", "\n")?;
+        let line = format!(in alloc; "refused: {fault}\n")?;
+        for words in ["check loop.toml", "size loop.toml"] {
+            let (status, text) = ran(alloc, words, file.as_bytes(), 1000)?;
+            assert_eq!(rt;
+                (status, text.as_str()),
+                (Status::FileRefused, line.as_str())
+            );
+        }
+    }
+    Ok(())
+}
+
+/// The file of one channel cut off after each of its lines but the last.
+#[test]
+fn truncated_files(rt: HostRuntime) -> Result<(), Fail> {
+    let alloc = rt.alloc();
+    let missing =
+        "version|mission|subsystem|subsystem[0].name|subsystem[0].vote|subsystem[0].du|subsystem[0].repair";
+    let mut file = String::new(alloc);
+    for (key, line) in missing.split('|').zip(ONE_CHANNEL.lines()) {
+        let (status, text) = ran(alloc, "check loop.toml", file.as_bytes(), 1000)?;
+        let told = format!(in alloc; "refused: missing {key}\n")?;
+        assert_eq!(rt;
+            (status, text.as_str()),
+            (Status::FileRefused, told.as_str())
+        );
+        file.push_str(line)?;
+        file.push('\n')?;
+    }
+    let (status, _) = ran(alloc, "check loop.toml", file.as_bytes(), 1000)?;
+    assert_eq!(rt; status, Status::Done);
+    Ok(())
+}
+
+/// A byte that no text has is no TOML, wherever it stands.
+#[test]
+fn byte_of_no_text(rt: HostRuntime) -> Result<(), Fail> {
+    let alloc = rt.alloc();
+    let mut file: Vec<u8> = Vec::new(alloc);
+    file.extend_from_slice(ONE_CHANNEL.as_bytes())?;
+    file.extend_from_slice(b"# \xff\n")?;
+    let (status, text) = ran(alloc, "check loop.toml", &file, 1000)?;
+    assert_eq!(rt;
+        (status, text.as_str()),
+        (Status::FileRefused, "refused: not TOML\n")
+    );
+    Ok(())
+}
+
+/// A file as long as a loop file may be, and one byte longer.
+#[test]
+fn longest_file(rt: HostRuntime) -> Result<(), Fail> {
+    let alloc = rt.alloc();
+    let mut file: Vec<u8> = Vec::new(alloc);
+    file.extend_from_slice(ONE_CHANNEL.as_bytes())?;
+    file.resize(FILE_LIMIT, b'#')?;
+    let (status, text) = ran(alloc, "size loop.toml", &file, 1000)?;
+    assert_eq!(rt; status, Status::Done, "{text}");
+    assert!(rt; text.as_str().ends_with("work 122752\n"), "{text}");
+    file.push(b'#')?;
+    let answer = ran(alloc, "size loop.toml", &file, 1000)?;
+    assert_eq!(rt;
+        (answer.0, answer.1.as_str()),
+        (
+            Status::FileRefused,
+            "refused: file longer than 65536 bytes\n"
+        )
+    );
+    Ok(())
+}
+
+/// Words that are not built, a file that is not there, and a sink that takes nothing more.
+#[test]
+fn words_and_faults(rt: HostRuntime) -> Result<(), Fail> {
+    let alloc = rt.alloc();
+    let file = ONE_CHANNEL.as_bytes();
+    for words in [
+        "",
+        "check",
+        "gen 7",
+        "Size loop.toml",
+        "check -x",
+        "check loop.toml loop.toml",
+    ] {
+        let (status, text) = ran(alloc, words, file, 1000)?;
+        assert_eq!(rt;
+            (status, text.as_str()),
+            (Status::NotBuilt, "refused: not built\n"),
+            "{words}"
+        );
+    }
+    let (status, text) = ran(alloc, "check other.toml", file, 1000)?;
+    assert_eq!(rt; (status, text.as_str()), (Status::ReadFault, ""));
+    for verb in ["check", "size"] {
+        let words = format!(in alloc; "{verb} loop.toml")?;
+        let (status, text) = ran(alloc, words.as_str(), file, 10)?;
+        assert_eq!(rt; (status, text.as_str()), (Status::WriteFault, "mission 87"));
+    }
+    Ok(())
+}
