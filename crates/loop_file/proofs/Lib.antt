@@ -4,3 +4,4 @@ pub mod Entries
 pub mod Valid
 pub mod Whole
 pub mod Ranges
+pub mod Order

@@ -82,12 +82,7 @@ name_found None n h = absurd (cc)
 name_found (Some d) n h = name_kind (as_str d) n h
 
 is_name : (n : List ℕ) → is_name_text n ≡ true → IsName n
-is_name n h =
-    let r = (decides_name n).0 h in
-    record {
-      size = record { above = r.some; below = r.few };
-      printable = λ k d w. let p = r.plain k d w in record { above = p.0; below = p.1 };
-    }
+is_name n h = (decides_name n).0 h
 
 -- votes
 

@@ -3,3 +3,4 @@ pub mod Paths
 pub mod Readings
 pub mod Tree
 pub mod LoopFile
+pub mod Order

@@ -17,6 +17,7 @@ mod types;
 mod values;
 
 pub use read::read_loop;
+pub use tree::members_in_order;
 
 #[cfg(test)]
 mod tests;

@@ -1,11 +1,12 @@
 //! The tree of a file, and its arrays of tables.
 
-ghost use Rattle.std.specs.Prelude.{◌≡◌, ◌⊎◌, map, OnOk, IfOk, IfErr, Some, None};
+ghost use Rattle.std.specs.Prelude.{◌≡◌, ◌⊎◌, true, map, OnOk, IfOk, IfErr, Some, None};
 ghost use Rattle.toml.specs.Data.{as_array};
 ghost use Rattle.toml.specs.View.{view, table_view};
 ghost use Rattle.loop_file.specs.Walk.{Pass, IsMemory, IsRefusal};
 ghost use Rattle.loop_file.specs.LoopFile.{array_checks, items_or_none};
 ghost use Rattle.loop_file.specs.declared.place.Place.TheVariants.{Top};
+ghost use Rattle.loop_file.specs.Order.{keys_ascend};
 ghost use Rattle.loop_file.specs.Tree.{tree_of};
 
 use crate::entry::Entry;
@@ -30,6 +31,14 @@ pub fn parse(alloc: Global, bytes: &[u8]) -> Result<Table, FileFault>
             }
         }
     }
+}
+
+/// The members of every table that is read stand in the order of their keys' bytes, so that the first key that the walk does
+/// not know is the least one.
+pub fn members_in_order(table: &Table)
+    ensures { keys_ascend (table_view table.now) ≡ true }
+{
+    let _ = table.iter();
 }
 
 /// Reads the array at a key of the top table, which holds `least` to `greatest` tables.

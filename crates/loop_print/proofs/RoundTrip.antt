@@ -9,7 +9,7 @@ use Rattle.sil_model.specs.declared.parts.InRepair.TheVariants.{Lost}
 use Rattle.sil_model.specs.declared.parts.Subsystem.{Subsystem}
 use Rattle.sil_model.specs.declared.parts.TestPlan.{TestPlan}
 use Rattle.sil_model.specs.declared.parts.Vote.{Vote}
-use Rattle.sil_text.specs.Name.{is_name_text, IsName as IsNameText}
+use Rattle.sil_text.specs.Name.{is_name_text}
 use Rattle.sil_text.proofs.Names.{decides_name}
 use Rattle.toml.specs.Data.{Data, string, table, array, Items, Members, get_member, items_depth, members_depth, items_have_valid_dates, members_have_valid_dates}
 use Rattle.toml.specs.Parse.{parse_document}
@@ -25,6 +25,7 @@ use Rattle.loop_file.specs.Paths.{path_of}
 use Rattle.loop_file.specs.Readings.{or_none, name_in, whole_in, rate_in, thousandths_in, millionths_in, in_repair_in}
 use Rattle.loop_file.specs.Walk.{Check, first_fault, checks_below, Pass}
 use Rattle.loop_file.proofs.Entries.{in_range}
+use Rattle.loop_print.specs.RoundTrip.{RoundTrip}
 use Rattle.loop_print.proofs.Printed.{whole_read, rate_read, thousandths_read, millionths_read, choice_read, vote_read}
 use Rattle.loop_file.proofs.Walks.{pass_append, pass_cons, pass_none, read_passes}
 use Rattle.loop_file.proofs.Whole.{same_loop}
@@ -134,9 +135,7 @@ given_passes i given u t r =
 -- Names.
 
 name_test : (name : List ℕ) → IsName name → is_name_text name ≡ true
-name_test name h =
-    let is : IsNameText name = record { some = h.size.above; few = h.size.below; plain = λ k d w. let p = h.printable k d w in (p.above, p.below) } in
-    (decides_name name).1 is
+name_test name h = (decides_name name).1 h
 
 name_read : (name : List ℕ) → IsName name → name_in (string name) ≡ Ok name
 name_read name h = rw (name_test name h) refl
@@ -331,3 +330,6 @@ canonical_tree l bytes utf8 parsed = rw utf8 (parsed (omega (arith, canonical_de
 -- A text whose tree is the canonical table of a valid loop is a loop file of the loop.
 pub canonical_is_loop : (l : LoopValue) (bytes : List ℕ) → IsValid l → tree_of bytes ≡ Some (canonical_of l) → IsLoopOf bytes l
 canonical_is_loop l bytes v toml = record { tree = canonical_of l; toml = toml; pass = (canonical_passes l v).none; value = canonical_read l v }
+
+pub round_trip : RoundTrip
+round_trip = record { no_fault = λ l v. (canonical_passes l v).none; same_loop = λ l v. sym (canonical_read l v) }

@@ -1,12 +1,13 @@
 //! A loop, printed as a loop file.
 
-ghost use Rattle.std.specs.Prelude.{◌≡◌, pos, map, Some, OnOk, IfOk, string_bytes};
+ghost use Rattle.std.specs.Prelude.{◌≡◌, pos, map, Some, OnOk, IfOk};
 ghost use Rattle.toml.specs.View.{view, table_view};
 ghost use Rattle.sil_model.specs.LoopValue.{IsValid};
 ghost use Rattle.loop_file.specs.Tree.{tree_of};
 ghost use Rattle.loop_file.specs.LoopFile.{IsLoopOf};
 ghost use Rattle.loop_print.specs.Canonical.{canonical_of, subsystem_table, test_table, whole_number, rate_text, thousandths_text, millionths_text, vote_text, choice_bytes};
 ghost use Rattle.loop_print.specs.Put.{put, with_figures};
+ghost use Rattle.loop_print.specs.RoundTrip.{RoundTrip};
 
 use sil_model::{ChannelFigures, InRepair, Loop, Subsystem, TestPlan, Vote};
 use std::alloc::{AllocError, Global};
@@ -15,17 +16,22 @@ use toml::{Table, Value};
 
 /// Prints the canonical loop file of a loop, which has every key and no types. Reading it gives the loop back. The only
 /// refusal is want of memory.
-pub fn print_loop(alloc: Global, l: &Loop) -> Result<String, AllocError>
-    ensures canonical { IfOk result (λ text. tree_of (string_bytes text) ≡ Some (canonical_of l.now)) }
-    ensures reads_back { IfOk result (λ text. IsLoopOf (string_bytes text) l.now) }
+pub fn print_loop(alloc: Global, l: &Loop) -> Result<Vec<u8>, AllocError>
+    ensures canonical { IfOk result (λ text. tree_of text.items ≡ Some (canonical_of l.now)) }
+    ensures reads_back { IfOk result (λ text. IsLoopOf text.items l.now) }
 {
     let table = loop_table(alloc, l)?;
     match toml::table_to_string(alloc, &table) {
-        Ok(text) => Ok(text),
+        Ok(text) => Ok(text.into_bytes()),
         Err(Error::OutOfMemory) => Err(AllocError),
         Err(Error::DateInvalid) => unreachable!(),
     }
 }
+
+/// What a canonical table means, for every valid loop: it has no fault, and it is the file of that loop.
+pub fn round_trip_law()
+    ensures { RoundTrip }
+{}
 
 /// The canonical table of a loop.
 fn loop_table(alloc: Global, l: &Loop) -> Result<Table, AllocError>

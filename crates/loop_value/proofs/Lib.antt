@@ -1,2 +1,9 @@
 pub mod Limits
 pub mod Beats
+pub mod Rooms
+pub mod Sides
+pub mod GroupTestCounts
+pub mod Reached
+pub mod Printable
+pub mod Figures
+pub mod Starts

@@ -1,11 +1,13 @@
-//! How large the computation of a loop is.
-//!
-//! [`measure`] counts tests of channels, lumped states, phases, beats and work, and refuses a loop that exceeds a limit of
-//! these, with the first limit that it exceeds and its count.
+//! The figures of a loop, and how large its computation is.
 #![tactic(auto)]
 
+mod ends;
+mod evaluating;
 mod measuring;
+mod mission;
+mod preparing;
 #[cfg(test)]
 mod tests;
 
+pub use evaluating::value;
 pub use measuring::{ValueFault, measure};

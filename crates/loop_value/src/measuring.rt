@@ -2,28 +2,17 @@
 
 ghost use Rattle.std.specs.Prelude.{◌≡◌, ℕ, ◌<◌, ◌≤◌, ◌↔◌, Some, None, IfOk, OnOk};
 ghost use Rattle.sil_model.specs.Calendar.{phases_of};
-ghost use Rattle.sil_model.specs.Sizes.{all_beats_of, channel_tests_of, states_of, first_limit_of};
+ghost use Rattle.sil_model.specs.Sizes.{all_beats_of, channel_tests_of, states_of, most_states, most_beats, first_limit_of};
 ghost use Rattle.sil_model.specs.declared.answers.LimitFault.{LimitFault};
 ghost use Rattle.sil_model.specs.declared.answers.LimitFault.TheVariants.{TooManyTests, TooManyStates};
+ghost use Rattle.loop_value.specs.Mission.{IsPlanOf};
 ghost use Rattle.loop_value.specs.Sizes.{sizes_of};
 
 use lumping::state_count;
-use sil_model::{LimitFault, Loop, Sizes};
+use sil_model::{LimitFault, Loop, MOST_BEATS, MOST_STATES, MOST_TESTS, MOST_WORK, Sizes};
 use std::alloc::{AllocError, Global};
 use test_calendar::{Plan, PlanFault, beats_of, channel_tests, plan};
 use thiserror::Error;
-
-/// The most tests of channels that a loop may have.
-const MOST_TESTS: u64 = 4096;
-
-/// The most lumped states that a loop may have.
-const MOST_STATES: u128 = 4096;
-
-/// The most beats that a loop may have.
-const MOST_BEATS: u64 = 1_000_000;
-
-/// The most that a loop may have of beats times order times states.
-const MOST_WORK: u64 = 1 << 34;
 
 /// Why nothing is computed of a loop.
 #[derive(Debug, Drop, Error)]
@@ -34,6 +23,15 @@ pub enum ValueFault {
     /// Memory is wanting.
     #[error(transparent)]
     Memory(AllocError),
+}
+
+/// A loop that exceeds no limit, laid out: its plan and its sizes.
+#[derive(Drop)]
+pub struct Planned {
+    /// Its phases, and the tests between them.
+    pub plan: Plan,
+    /// How large its computation is.
+    pub sizes: Sizes,
 }
 
 /// How large the computation of a loop is, at an order of the series.
@@ -49,13 +47,34 @@ pub fn measure(alloc: Global, l: &Loop, order: u8) -> Result<Sizes, ValueFault>
     ensures too_many_tests { (n : ℕ) → (result ≡ Err (ValueFault.Limit (TooManyTests n))) ↔ (first_limit_of l.now order ≡ Some (TooManyTests n)) }
     ensures too_many_states { (n : ℕ) → (result ≡ Err (ValueFault.Limit (TooManyStates n))) ↔ (first_limit_of l.now order ≡ Some (TooManyStates n)) }
 {
+    match lay_out(alloc, l, order) {
+        Ok(planned) => Ok(planned.sizes),
+        Err(fault) => Err(fault),
+    }
+}
+
+/// Lays out a loop, unless it exceeds a limit.
+pub fn lay_out(alloc: Global, l: &Loop, order: u8) -> Result<Planned, ValueFault>
+    ensures plan { IfOk result (λ p. IsPlanOf l.now p.plan) }
+    ensures sizes { IfOk result (λ p. p.sizes ≡ sizes_of l.now order) }
+    ensures few_states { OnOk result (states_of l.now.subsystems ≤ most_states) }
+    ensures few_beats { OnOk result (all_beats_of l.now ≤ most_beats) }
+    ensures within { OnOk result (first_limit_of l.now order ≡ None) }
+
+    ensures first { (f : LimitFault) → result ≡ Err (ValueFault.Limit f) → first_limit_of l.now order ≡ Some f }
+    ensures too_many_tests { (n : ℕ) → (result ≡ Err (ValueFault.Limit (TooManyTests n))) ↔ (first_limit_of l.now order ≡ Some (TooManyTests n)) }
+    ensures too_many_states { (n : ℕ) → (result ≡ Err (ValueFault.Limit (TooManyStates n))) ↔ (first_limit_of l.now order ≡ Some (TooManyStates n)) }
+{
+    // The values of a loop are in their ranges.
+    let _ = l.mission();
     let states = counted_states(l).map_err(ValueFault::Limit)?;
     let plan = match plan(alloc, l) {
         Ok(plan) => plan,
         Err(PlanFault::Limit(fault)) => return Err(ValueFault::Limit(fault)),
         Err(PlanFault::Memory(fault)) => return Err(ValueFault::Memory(fault)),
     };
-    sizes_by_plan(l, &plan, states, order).map_err(ValueFault::Limit)
+    let sizes = sizes_by_plan(l, &plan, states, order).map_err(ValueFault::Limit)?;
+    Ok(Planned { plan, sizes })
 }
 
 /// The lumped states of a loop, unless its tests or its states are too many.
@@ -83,6 +102,7 @@ fn sizes_by_plan(l: &Loop, plan: &Plan, states: u64, order: u8) -> Result<Sizes,
     requires few_tests { channel_tests_of l.now ≤ MOST_TESTS }
     requires few_states { states_of l.now.subsystems ≤ MOST_STATES }
     ensures sizes { IfOk result (λ s. s ≡ sizes_of l.now order) }
+    ensures few_beats { OnOk result (all_beats_of l.now ≤ most_beats) }
     ensures within { OnOk result (first_limit_of l.now order ≡ None) }
     ensures first { (f : LimitFault) → result ≡ Err f → first_limit_of l.now order ≡ Some f }
 {

@@ -8,13 +8,10 @@ ghost use Rattle.lumping.specs.Kept.{IsSmall};
 ghost use Rattle.sil_model.specs.declared.answers.LimitFault.{LimitFault};
 
 use crate::group::{counts_in_group, number_in_group, shares};
-use sil_model::{Group, LimitFault, Loop};
+use sil_model::{Group, LimitFault, Loop, MOST_STATES};
 use std::alloc::{AllocError, Global};
 use std::marker::Model;
 use std::snapshot::Snapshot;
-
-/// The most count vectors that a space has.
-const MOST_STATES: u128 = 4096;
 
 /// Why a loop has no space.
 #[derive(Clone, Copy, Debug, PartialEq, Eq)]
@@ -50,7 +47,8 @@ impl Model for Space {
 }
 
 impl Space {
-    /// The space of a loop. It is refused exactly where the loop has more than 4,096 count vectors, with their number.
+    /// The space of a loop. It is refused exactly where the loop has more count vectors than [`MOST_STATES`], with
+    /// their number.
     pub fn new(alloc: Global, l: &Loop) -> Result<Space, SpaceFault>
         ensures refused { (result ≡ Err (SpaceFault.Limit (LimitFault.TooManyStates (states_of l.now.subsystems)))) ↔ (most_states < states_of l.now.subsystems) }
         ensures no_other_limit { (f : LimitFault) → result ≡ Err (SpaceFault.Limit f) → f ≡ LimitFault.TooManyStates (states_of l.now.subsystems) }
@@ -68,7 +66,7 @@ impl Space {
         })
     }
 
-    /// How many count vectors there are, from 1 to 4,096.
+    /// How many count vectors there are, from 1 to [`MOST_STATES`].
     pub fn size(&self) -> usize
         ensures size { result ≡ states_of self.now.subsystems }
         ensures some { 1 ≤ result }

@@ -1,2 +1,5 @@
 mod Worked
+mod Phases
 mod Edges
+mod Traded
+mod Compared

@@ -5,7 +5,8 @@ use Rattle.sil_model.specs.Calendar.{test_hours_of}
 use Rattle.sil_model.specs.Pay.{Item, pay_of}
 use Rattle.sil_model.specs.Pay.Item.{Beat, Tests}
 use Rattle.sil_model.specs.Pay.Mode.{Down, Entry, AtEnd}
-use Rattle.sil_model.specs.Figures.{pfd_of}
+use Rattle.sil_model.specs.LoopValue.{LoopValue}
+use Rattle.sil_model.specs.Figures.{IsPhase, pfd_of, pfh_of, phase_mean_of, phase_end_of}
 use Rattle.sil_model.specs.Bands.{IsBandOf, pfd_edge, pfh_edge}
 use Rattle.sil_model.specs.declared.parts.Subsystem.{Subsystem}
 use Rattle.sil_model.specs.declared.parts.TestPlan.{TestPlan}
@@ -60,6 +61,33 @@ pub record WorkedCases : Type 0 where
   pub two_beats : pfd_of 2 (record { mission = 1; order = 16; subsystems = one_channel }) ≡ ratio 10_241 320_000
   -- test hours before the end of the mission, and none at it
   pub test_hours : test_hours_of (record { mission = 6; order = 16; subsystems = tested_channel }) ≡ 2 ∷ 4 ∷ []
+
+-- a channel half of whose failures a full test alone finds, with a repair of four hours, tested at each second hour
+abbrev pub slow_channel : List Subsystem
+slow_channel = record {
+  name = [];
+  vote = record { m = 1; n = 1 };
+  figures = record { du = 10 ^ 11; dd = 0; beta = 0; beta_d = 0; coverage = 500; restart_fault = 20_000; repair = 4 };
+  in_repair = Tripped;
+  test = Some (record { first = 2; every = 2; stagger = 0; full_each = 2 });
+} ∷ []
+
+-- four hours of it: a phase of one beat before the test of the second hour, which is partial, and one after it
+abbrev pub two_phases : LoopValue
+two_phases = record { mission = 4; order = 16; subsystems = slow_channel }
+
+pub record PhaseCases : Type 0 where
+  -- the phases have the numbers 0 and 1, and no other
+  pub numbered : IsPhase two_phases 1
+  pub no_more : IsPhase two_phases 2 → ⊥
+  -- PFDavg and PFH across the test; the mean of the second phase, and the ends of both
+  pub average : pfd_of 1 two_phases ≡ ratio 17 500
+  pub high_demand : pfh_of 1 two_phases ≡ ratio 493 5000
+  pub mean : phase_mean_of 1 two_phases 1 ≡ ratio 17 250
+  pub first_end : phase_end_of 1 two_phases 0 ≡ ratio 1 10
+  pub second_end : phase_end_of 1 two_phases 1 ≡ ratio 781 5000
+  -- PFH of an hour in two beats, by a longer series
+  pub two_beats : pfh_of 2 (record { mission = 1; order = 16; subsystems = one_channel }) ≡ ratio 309_759 3_200_000
 
 pub record BandCases : Type 0 where
   pub lower_end : IsBandOf pfd_edge (10 ^ 13) (10 ^ 14 - 1) Sil4

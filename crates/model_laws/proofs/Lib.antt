@@ -4,4 +4,5 @@ pub mod Beats
 pub mod Weighing
 pub mod Totals
 pub mod Rates
+pub mod Shares
 pub mod Pays

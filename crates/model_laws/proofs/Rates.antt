@@ -14,11 +14,7 @@ use Rattle.sil_model.specs.Calendar.{beat_rate_of, beats_of, ceiling}
 use Rattle.sil_model.specs.LoopValue.{IsSubsystemInRange}
 use Rattle.sil_model.specs.declared.parts.Subsystem.{Subsystem}
 use Rattle.model_laws.specs.Hours.{IsShort}
-
--- a channel's share of its repair rate is at most 1
-share_le : (u : Subsystem) (n : ℕ) → share_of u n ≤ℚ whole 1
-unfolding share_of
-share_le u n = le_refl _
+use Rattle.model_laws.proofs.Shares.{share-at_most_one}
 
 -- the rates that leave a state are among all rates
 leaving_le : (es : List Event) (s : FullState) → leaving_rate es s ≤ℚ total (λ (e : Event). e.rate s) es
@@ -77,7 +73,7 @@ module _ (u : Subsystem) (r : IsSubsystemInRange u) (s : FullState) where
   unfolding failure_rate
   one_channel a i =
       let y : Fraction = share_of u (in_repair_of a u.vote.n s) *ℚ R in
-      let small : y ≤ℚ R = part_le (share_of u (in_repair_of a u.vote.n s)) R (share_le u (in_repair_of a u.vote.n s)) in
+      let small : y ≤ℚ R = part_le (share_of u (in_repair_of a u.vote.n s)) R (share-at_most_one u (in_repair_of a u.vote.n s)) in
       let e : rest_of b *ℚ c *ℚ D +ℚ (rest_of b *ℚ rest_of c *ℚ D +ℚ (rest_of bd *ℚ Dd +ℚ (y +ℚ whole 0))) ≡ rest_of b *ℚ D +ℚ (rest_of bd *ℚ Dd +ℚ y) =
       rw (add-zero y) (sym (add_assoc _ _ _) ∙ ap (λ z. z +ℚ (rest_of bd *ℚ Dd +ℚ y)) (split (rest_of b))) in
       rw e (add-le-add _ _ _ _ (le_refl _) (add-le-add _ _ _ _ (le_refl _) small))

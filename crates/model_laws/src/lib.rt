@@ -7,9 +7,10 @@
 //!   before, by the values asked backwards.
 //! - `proofs/Pays`: what a vector pays in a beat, in any mode.
 //! - `proofs/Totals`: the complement law. `proofs/Rates`: the uniformised rate law.
+//! - `proofs/Shares`: the share of the repair crews.
 #![tactic(auto)]
 
-ghost use Rattle.model_laws.specs.Laws.{ComplementLaw, UniformisedRateLaw, LinearBeats};
+ghost use Rattle.model_laws.specs.Laws.{ComplementLaw, UniformisedRateLaw, ShareLaw, LinearBeats};
 
 /// Over every schedule of short beats, the time down and the time up come to the hours that count.
 pub fn complement_law()
@@ -19,6 +20,12 @@ pub fn complement_law()
 /// A phase with as many beats as the definition asks has short steps.
 pub fn uniformised_rate_law()
     ensures { UniformisedRateLaw }
+{}
+
+/// A channel is repaired at a rate that goes by how many channels of its subsystem are in repair, and its share of the
+/// crews is above 0 and at most 1.
+pub fn share_law()
+    ensures { ShareLaw }
 {}
 
 /// The uniformised step and its beats are linear.

@@ -8,7 +8,8 @@ use Rattle.sil_fraction.proofs.Laws.{le_refl, le_trans, mul-le-right, mul-le-lef
 use Rattle.sil_fraction.proofs.Sums.{le-add_right, le-below-more, add-le-add, whole-positive, mul-zero, add-mul, divided}
 use Rattle.sil_model.specs.Series.{factorial, series_of, tail_of}
 use Rattle.model_laws.proofs.Series.{factorial_pos, series_positive}
-use Rattle.series_weights.specs.Weights.{first_weight, weight_of, mean_weight_of, IsBelowTerm, IsBelowTail}
+use Rattle.sil_model.specs.WeightTable.{first_weight, weight_of, mean_weight_of}
+use Rattle.series_weights.specs.Weights.{IsBelowTerm, IsBelowTail}
 
 -- what is left of the series after 1/n! is below 1/(n * n!)
 abbrev rest : ℕ → Fraction

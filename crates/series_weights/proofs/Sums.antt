@@ -4,7 +4,7 @@ use Rattle.std.proofs.lemmas.Bool.{cases_lt}
 use Rattle.std.proofs.Math.Nat.{div-mul-le_self, lt-div-mul-add, div-le_self}
 use Rattle.sil_fraction.specs.Sum.{sum_below}
 use Rattle.sil_fraction.proofs.Sums.{sum-same, sum-add, sum-append, sum-first}
-use Rattle.series_weights.specs.Weights.{first_weight, weight_of, mean_weight_of, missing_of}
+use Rattle.sil_model.specs.WeightTable.{first_weight, weight_of, mean_weight_of, missing_of}
 
 pub weight_at : (k : ℕ) → 0 < k → weight_of k ≡ weight_of (k - 1) / k
 unfolding weight_of

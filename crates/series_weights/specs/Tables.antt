@@ -1,6 +1,6 @@
 -- What the tables of weights hold.
 use Rattle.std.specs.Prelude.{◌≡◌, ℕ, ◌<◌, ◌≤◌, slice_index}
-use Rattle.series_weights.specs.Weights.{weight_of, mean_weight_of}
+use Rattle.sil_model.specs.WeightTable.{weight_of, mean_weight_of}
 use Rattle.series_weights.specs.declared.Weights.TheInside.{Inside}
 
 -- an order from 16 to 40, and the two weights of every number of steps

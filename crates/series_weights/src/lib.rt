@@ -6,7 +6,8 @@
 
 ghost use Rattle.std.specs.Prelude.{◌≡◌, ℕ, suc, ◌+◌, ◌-◌, ◌*◌, ◌/◌, ◌^◌, ◌<◌, ◌≤◌, slice_index};
 ghost use Rattle.sil_fraction.specs.Sum.{sum_below};
-ghost use Rattle.series_weights.specs.Weights.{weight_of, mean_weight_of, missing_of, IsBelowTerm, IsBelowTail};
+ghost use Rattle.sil_model.specs.WeightTable.{weight_of, mean_weight_of, missing_of};
+ghost use Rattle.series_weights.specs.Weights.{IsBelowTerm, IsBelowTail};
 
 use std::marker::Model;
 

@@ -7,7 +7,7 @@ use Rattle.std.proofs.lemmas.Bool.{ltb-true, ltb-false}
 use Rattle.std.proofs.lemmas.Option.{slice_get_past}
 use Rattle.std.proofs.lemmas.List.Folds.{find_at, find-set, find_past, find-append}
 use Rattle.std.proofs.lemmas.List.Quantifiers.{position-Some}
-use Rattle.sil_io.specs.ShelfState.{NamedBytes, bytes_under, bytes_at, has_name}
+use Rattle.sil_io.specs.ShelfState.{NamedBytes, bytes_under, name_at, bytes_at, has_name}
 
 -- a test that holds, and one that does not
 has_name-true : (name : List ℕ) (f : NamedBytes) → f.name ≡ name → has_name name f ≡ true
@@ -46,6 +46,24 @@ pub bytes_under-place : (name : List ℕ) (fs : List NamedBytes) (i : ℕ) → p
 bytes_under-place name fs i e =
     ap (option_map (λ f. f.bytes)) (find_at (has_name name) fs ∙ ap (slice_get fs) (sym (position-is (has_name name) fs i e).1))
     ∙ get-Some fs i (position-is (has_name name) fs i e).0
+
+get-name : (fs : List NamedBytes) (f : NamedBytes) (i : ℕ) → i < length fs → name_at fs i ≡ (get_or fs i f).name
+get-name [] f i h = absurd (omega arith)
+get-name (g ∷ fs) f zero h = refl
+get-name (g ∷ fs) f (suc i) h = get-name fs f i (omega arith)
+
+-- the bytes of the file that an index gives
+pub get-bytes : (fs : List NamedBytes) (f : NamedBytes) (i : ℕ) → i < length fs → (get_or fs i f).bytes ≡ bytes_at fs i
+get-bytes [] f i h = absurd (omega arith)
+get-bytes (g ∷ fs) f zero h = refl
+get-bytes (g ∷ fs) f (suc i) h = get-bytes fs f i (omega arith)
+
+-- the place that `position` found has the name
+pub name_at-place : (name : List ℕ) (fs : List NamedBytes) (i : ℕ) → position (has_name name) fs ≡ Some i → name_at fs i ≡ name
+name_at-place name fs i e =
+    let f : NamedBytes = record { name = []; bytes = [] } in
+    get-name fs f i (position-is (has_name name) fs i e).0
+    ∙ has_name-is name (get_or fs i f) (position-Some (has_name name) fs i f e).1
 
 find-None : (p : NamedBytes → Bool) (fs : List NamedBytes) → position p fs ≡ None → find p fs ≡ None
 find-None p fs e =

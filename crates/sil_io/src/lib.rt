@@ -4,12 +4,14 @@
 //! and [`write_whole`] writes a text whole.
 #![tactic(auto)]
 
+mod log;
 mod memory_shelf;
 mod memory_sink;
 mod outside;
 mod reading;
 mod writing;
 
+pub use log::Log;
 pub use memory_shelf::MemShelf;
 pub use memory_sink::MemSink;
 pub use outside::{FileShelf, OutSink};

@@ -2,6 +2,7 @@
 ghost use Rattle.std.specs.Prelude.{◌≡◌, ◌≢◌, ℕ, ◌+◌, ◌≤◌, ◌<◌, ◌++◌, ◌↔◌, List, [], Some, None, true, false, length, take, drop, min, is_ok, IsOk, IsSome, IfOk, OnOk, OnErr};
 ghost use Rattle.std.specs.List.{position};
 ghost use Rattle.sil_io.specs.Faults.{CountsFault, counted};
+ghost use Rattle.sil_io.specs.Handed.{nothing_handed, just_picked, handed_more};
 ghost use Rattle.sil_io.specs.ShelfState.{ShelfState, bytes_under, has_name};
 
 use crate::reading::Shelf;
@@ -44,11 +45,11 @@ pub struct MemShelf {
 impl Model for MemShelf {
     ghost use Rattle.std.specs.Prelude.{is_some};
     ghost use Rattle.sil_io.specs.ShelfState.{ShelfState};
-    ghost use Rattle.sil_io.specs.Reading.{left_of, IsReading};
+    ghost use Rattle.sil_io.specs.Reading.{left_of, handed_of, IsReading};
 
     ghost Value = { ShelfState };
 
-    ghost view = { λ s. record { files = s.files.items; picked = is_some s.reading; left = left_of s.files.items s.reading; faults = s.faults } };
+    ghost view = { λ s. record { files = s.files.items; picked = is_some s.reading; left = left_of s.files.items s.reading; handed = handed_of s.files.items s.reading; faults = s.faults } };
 
     ghost invariant = { λ s. IsReading s.files.items s.reading };
 }
@@ -56,7 +57,7 @@ impl Model for MemShelf {
 impl MemShelf {
     /// A shelf without files.
     pub fn new(alloc: Global) -> MemShelf
-        ensures { result ≡ record { files = []; picked = false; left = []; faults = 0 } }
+        ensures { result ≡ record { files = []; picked = false; left = []; handed = nothing_handed; faults = 0 } }
     {
         MemShelf {
             alloc,
@@ -71,8 +72,9 @@ impl MemShelf {
     pub fn put(&mut self, name: &str, bytes: &[u8]) -> Result<(), AllocError>
         ensures put { OnOk result (bytes_under self.new.files name.now ≡ Some bytes.now) }
         ensures others_stay { OnOk result ((other : List ℕ) → other ≢ name.now → bytes_under self.new.files other ≡ bytes_under self.old.files other) }
-        ensures unpicked { OnOk result (self.new.picked ≡ false) }
-        ensures nothing_left { OnOk result (self.new.left ≡ []) }
+        ensures none_picked { OnOk result (self.new.picked ≡ false) }
+        ensures none_left { OnOk result (self.new.left ≡ []) }
+        ensures none_handed { OnOk result (self.new.handed ≡ nothing_handed) }
         ensures faults_stay { self.new.faults ≡ self.old.faults }
         ensures refused { OnErr result (self.new ≡ self.old) }
     {
@@ -125,6 +127,8 @@ impl Shelf for MemShelf {
 
     ghost left = { λ s. s.left };
 
+    ghost handed = { λ s. s.handed };
+
     ghost faults = { λ s. s.faults };
 
     /// Fails for a name that the shelf does not hold, and for no other.
@@ -134,9 +138,11 @@ impl Shelf for MemShelf {
         ensures picked { self.new.picked ≡ is_ok result }
         ensures whole { OnOk result (bytes_under self.old.files name.now ≡ Some self.new.left) }
         ensures nothing_left { OnErr result (self.new.left ≡ []) }
+        ensures anew { OnOk result (self.new.handed ≡ just_picked name.now) }
+        ensures no_file { OnErr result (self.new.handed ≡ nothing_handed) }
         ensures faults_never_fall { self.old.faults ≤ self.new.faults }
         ensures no_fault { OnOk result (self.new.faults ≡ self.old.faults) }
-        ensures failed { OnErr result (self.new.faults ≡ counted self.old.faults) }
+        ensures counted { OnErr result (self.new.faults ≡ counted self.old.faults) }
     {
         match place_of(&self.files, name) {
             Some(place) => {
@@ -157,9 +163,10 @@ impl Shelf for MemShelf {
         ensures count { IfOk result (λ n. n ≡ min (length buf.old) (length self.old.left)) }
         ensures buffer { IfOk result (λ n. buf.new ≡ take n self.old.left ++ drop n buf.old) }
         ensures left { IfOk result (λ n. self.new.left ≡ drop n self.old.left) }
+        ensures handed { IfOk result (λ n. self.new.handed ≡ handed_more self.old.handed (take n buf.new)) }
         ensures files_stay { self.new.files ≡ self.old.files }
         ensures picked_stays { self.new.picked ≡ self.old.picked }
-        ensures unpicked { self.old.picked ≡ false → self.old.left ≡ [] }
+        ensures nothing_to_read { self.old.picked ≡ false → self.old.left ≡ [] }
         ensures no_fault { self.new.faults ≡ self.old.faults }
     {
         let Some(reading) = self.reading else {

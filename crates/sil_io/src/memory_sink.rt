@@ -91,6 +91,8 @@ impl Sink for MemSink {
 
     ghost written = { λ s. s.written };
 
+    ghost taken = { λ s. s.written };
+
     ghost faults = { λ s. s.faults };
 
     /// Takes as many bytes as the room and the planned failure allow.

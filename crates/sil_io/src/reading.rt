@@ -1,6 +1,7 @@
 //! Reading a picked file whole.
 ghost use Rattle.std.specs.Prelude.{◌≡◌, ℕ, ◌+◌, ◌≤◌, ◌<◌, ◌^◌, Bool, true, false, List, [], Option, take, drop, length, vec_len, is_ok, IsTrue, IfOk, OnOk, OnErr, IsErrOf};
 ghost use Rattle.sil_io.specs.Faults.{CountsFault};
+ghost use Rattle.sil_io.specs.Handed.{Handed, nothing_handed, just_picked, handed_more, HandsMoreThan, HandsAtMost, HandsFrontOf};
 
 use crate::writing::Failed;
 use std::alloc::{AllocError, Global};
@@ -20,6 +21,9 @@ pub trait Shelf {
     // the bytes of the picked file that are not read yet, where told
     ghost left: { Self → List ℕ };
 
+    // which file is picked, if one is, and the bytes that `read` handed out since, in order
+    ghost handed: { Self → Handed };
+
     // how many picks and reads failed; it stands still at 2^64 - 1
     ghost faults: { Self → ℕ };
 
@@ -28,17 +32,21 @@ pub trait Shelf {
         ensures picked { picked self.new ≡ is_ok result }
         ensures whole { OnOk result (IsTrue tells → file self.old name.now ≡ Some (left self.new)) }
         ensures nothing_left { OnErr result (IsTrue tells → left self.new ≡ []) }
+        ensures anew { OnOk result (handed self.new ≡ just_picked name.now) }
+        ensures no_file { OnErr result (handed self.new ≡ nothing_handed) }
         ensures files_stay { IsTrue tells → (other : List ℕ) → file self.new other ≡ file self.old other }
         ensures faults_never_fall { faults self.old ≤ faults self.new }
         ensures failed { OnErr result (CountsFault (faults self.old) (faults self.new)) };
 
     /// Moves the next bytes of the picked file to the front of the buffer, and answers how many. 0 for a buffer with
     /// room is the end of the file, and so is any read while no file is picked. After `Failed` no clause says what is
-    /// left of the file.
+    /// left of the file. What was handed out are the first bytes of the buffer, as they are after the call.
     fn read(&mut self, buf: &mut [u8]) -> Result<usize, Failed>
         ensures within { IfOk result (λ n. n ≤ length buf.new) }
         ensures given { IfOk result (λ n. IsTrue tells → take n buf.new ≡ take n (left self.old)) }
         ensures rest { IfOk result (λ n. IsTrue tells → left self.new ≡ drop n (left self.old)) }
+        ensures handed { IfOk result (λ n. handed self.new ≡ handed_more (handed self.old) (take n buf.new)) }
+        ensures nothing_more { OnErr result (handed self.new ≡ handed self.old) }
         ensures end { result ≡ Ok 0 → 0 < length buf.old → IsTrue tells → left self.old ≡ [] }
         ensures unpicked { picked self.old ≡ false → IfOk result (λ n. n ≡ 0) }
         ensures picked_stays { picked self.new ≡ picked self.old }
@@ -71,10 +79,15 @@ pub fn read_to_limit<S: Shelf>(
 ) -> Result<Vec<u8>, ReadFault>
     requires { limit < 2 ^ 31 }
     ensures all { IfOk result (λ bytes. IsTrue S.tells → bytes.items ≡ S.left shelf.old) }
-    ensures nothing_left { OnOk result (IsTrue S.tells → S.left shelf.new ≡ []) }
+    ensures read_out { OnOk result (IsTrue S.tells → S.left shelf.new ≡ []) }
+    ensures all_handed { IfOk result (λ bytes. S.handed shelf.new ≡ handed_more (S.handed shelf.old) bytes.items) }
+    ensures more_handed { IsErrOf result ReadFault.TooLong → HandsMoreThan limit (S.handed shelf.old) (S.handed shelf.new) }
+    ensures part_handed { IsErrOf result ReadFault.Failed → HandsAtMost limit (S.handed shelf.old) (S.handed shelf.new) }
+    ensures front_handed { IsTrue S.tells → HandsFrontOf (S.left shelf.old) (S.handed shelf.old) (S.handed shelf.new) }
+    ensures none_handed { (e : AllocError) → IsErrOf result (ReadFault.Memory e) → S.handed shelf.new ≡ S.handed shelf.old }
     ensures within { IfOk result (λ bytes. vec_len bytes ≤ limit) }
     ensures too_long { IsErrOf result ReadFault.TooLong → IsTrue S.tells → limit < length (S.left shelf.old) }
-    ensures failed { IsErrOf result ReadFault.Failed → CountsFault (S.faults shelf.old) (S.faults shelf.new) }
+    ensures fault { IsErrOf result ReadFault.Failed → CountsFault (S.faults shelf.old) (S.faults shelf.new) }
     ensures picked_stays { S.picked shelf.new ≡ S.picked shelf.old }
     ensures files_stay { IsTrue S.tells → (name : List ℕ) → S.file shelf.new name ≡ S.file shelf.old name }
     ensures faults_never_fall { S.faults shelf.old ≤ S.faults shelf.new }

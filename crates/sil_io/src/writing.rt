@@ -18,6 +18,9 @@ pub trait Sink {
     // the bytes written so far, where told
     ghost written: { Self → List ℕ };
 
+    // the bytes that `write` answered to have taken, in order
+    ghost taken: { Self → List ℕ };
+
     // how many writes failed or stalled; it stands still at 2^64 - 1
     ghost faults: { Self → ℕ };
 
@@ -27,12 +30,15 @@ pub trait Sink {
         ensures within { IfOk result (λ n. n ≤ length bytes.now) }
         ensures appended { IfOk result (λ n. IsTrue tells → written self.new ≡ written self.old ++ take n bytes.now) }
         ensures unchanged { OnErr result (IsTrue tells → written self.new ≡ written self.old) }
+        ensures taken { IfOk result (λ n. taken self.new ≡ taken self.old ++ take n bytes.now) }
+        ensures nothing_taken { OnErr result (taken self.new ≡ taken self.old) }
         ensures faults_never_fall { faults self.old ≤ faults self.new }
         ensures failed { OnErr result (CountsFault (faults self.old) (faults self.new)) };
 
     /// Counts a stall: a write that took nothing of a piece that has bytes.
     fn note_stall(&mut self)
         ensures unchanged { IsTrue tells → written self.new ≡ written self.old }
+        ensures nothing_taken { taken self.new ≡ taken self.old }
         ensures faults_never_fall { faults self.old ≤ faults self.new }
         ensures counted { CountsFault (faults self.old) (faults self.new) };
 }
@@ -44,6 +50,8 @@ pub trait Sink {
 pub fn write_whole<K: Sink>(sink: &mut K, bytes: &[u8]) -> Result<(), Failed>
     ensures whole { OnOk result (IsTrue K.tells → K.written sink.new ≡ K.written sink.old ++ bytes.now) }
     ensures part { OnErr result (IsTrue K.tells → AppendsPart (K.written sink.old) (K.written sink.new) bytes.now) }
+    ensures all_taken { OnOk result (K.taken sink.new ≡ K.taken sink.old ++ bytes.now) }
+    ensures part_taken { OnErr result (AppendsPart (K.taken sink.old) (K.taken sink.new) bytes.now) }
     ensures not_for_nothing { OnErr result (0 < length bytes.now) }
     ensures faults_never_fall { K.faults sink.old ≤ K.faults sink.new }
     ensures failed { OnErr result (CountsFault (K.faults sink.old) (K.faults sink.new)) }

@@ -1,5 +1,5 @@
 -- The figures of a loop, by the series up to the order n.
-use Rattle.std.specs.Prelude.{ℕ, ◌^◌, slice_index_or}
+use Rattle.std.specs.Prelude.{ℕ, ◌<◌, ◌^◌, length, slice_index_or}
 use Rattle.sil_fraction.specs.Fraction.{Fraction, ◌*ℚ◌, ◌≤ℚ◌, whole, inverse}
 use Rattle.sil_model.specs.State.{start_of}
 use Rattle.sil_model.specs.Calendar.{Phase, phases_of}
@@ -14,6 +14,11 @@ pfd_of n l = pay_of l.subsystems n Down (schedule_of l) (start_of l.subsystems) 
 -- PFH: the expected entries into being down, divided by the mission
 unfoldable pub pfh_of : ℕ → LoopValue → Fraction
 pfh_of n l = pay_of l.subsystems n Entry (schedule_of l) (start_of l.subsystems) *ℚ inverse (whole l.mission)
+
+-- A phase has a number p, counted from 0 and below the number of phases; a record of it counts from 1, and so has the
+-- index p + 1. The figures below are of such a number alone: of any other they say nothing.
+abbrev pub IsPhase : LoopValue → ℕ → Type 0
+IsPhase l p = p < length (phases_of l)
 
 abbrev pub no_phase : Phase
 no_phase = record { start = 0; hours = 0 }

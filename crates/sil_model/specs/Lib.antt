@@ -8,3 +8,5 @@ pub mod Figures
 pub mod Bands
 pub mod Sizes
 pub mod Counts
+pub mod WeightTable
+pub mod Budget

@@ -3,7 +3,7 @@ use Rattle.std.specs.Prelude.{ℕ, zero, suc, Bool, true, ◌&&◌, not, List, [
 use Rattle.sil_fraction.specs.Fraction.{Fraction, ◌+ℚ◌, ◌*ℚ◌, ◌-ℚ◌, whole, ratio}
 use Rattle.sil_model.specs.State.{FullState, is_up_of}
 use Rattle.sil_model.specs.Events.{events_of, flow_of, step_of}
-use Rattle.sil_model.specs.Series.{beat_of, mean_of, times}
+use Rattle.sil_model.specs.Series.{beat_of, mean_of}
 use Rattle.sil_model.specs.Calendar.{ChannelTest, Phase, phases_of, tests_at, beats_of}
 use Rattle.sil_model.specs.LoopValue.{LoopValue}
 use Rattle.sil_model.specs.declared.parts.Chan.{Chan}
@@ -88,10 +88,6 @@ module _ (us : List Subsystem) where
   unfoldable pub testing_of : Mode → (FullState → Fraction) → List ChannelTest → FullState → FullState → Fraction
   testing_of m f [] before s = f s +ℚ passage_of m before s
   testing_of m f (t ∷ ts) before s = tested t (slice_index_or s t.channel Work) (λ x. testing_of m f ts before x) s
-
-  -- the payoff after k events
-  abbrev pub hit_of : Mode → Fraction → ℕ → FullState → Fraction
-  hit_of m h k = times (step_of (events_of us) h) k (payoff_of m)
 
   -- what is expected from a full state on, by the series up to the order n
   unfoldable pub pay_of : ℕ → Mode → List Item → FullState → Fraction

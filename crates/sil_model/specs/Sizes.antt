@@ -1,10 +1,11 @@
 -- How large the computation of a loop is, and its limits.
-use Rattle.std.specs.Prelude.{ℕ, ◌+◌, ◌*◌, ◌/◌, ◌^◌, List, [], ◌∷◌, length, sum_by, Option, Some, None, if◌then◌else◌, nat_lt}
+use Rattle.std.specs.Prelude.{ℕ, ◌+◌, ◌*◌, ◌/◌, List, [], ◌∷◌, length, sum_by, Option, Some, None, if◌then◌else◌, nat_lt}
 use Rattle.sil_model.specs.LoopValue.{LoopValue, groups_of}
-use Rattle.sil_model.specs.Calendar.{phases_of, test_hours_of, tests_at, beats_of, upto}
+use Rattle.sil_model.specs.Calendar.{phases_of, tests_at, beats_of, upto}
 use Rattle.sil_model.specs.declared.parts.Subsystem.{Subsystem}
 use Rattle.sil_model.specs.declared.parts.Group.{Group}
 use Rattle.sil_model.specs.declared.answers.LimitFault.{LimitFault}
+use Rattle.sil_model.specs.declared.limits.TheConstants.{MOST_TESTS, MOST_STATES, MOST_BEATS, MOST_WORK, MOST_FILE_BYTES}
 use Rattle.sil_model.specs.declared.answers.LimitFault.TheVariants.{TooManyTests, TooManyStates, TooManyBeats, TooMuchWork}
 
 -- in how many ways n equal channels share out over the four states: C(n + 3, 3)
@@ -31,17 +32,22 @@ work_of l order = all_beats_of l * order * states_of l.subsystems
 unfoldable pub channel_tests_of : LoopValue → ℕ
 channel_tests_of l = sum_by (λ t. length (tests_at l t)) (upto 0 l.mission)
 
+-- the limits, as the code has them
 abbrev pub most_tests : ℕ
-most_tests = 4096
+most_tests = MOST_TESTS
 
 abbrev pub most_states : ℕ
-most_states = 4096
+most_states = MOST_STATES
 
 abbrev pub most_beats : ℕ
-most_beats = 1_000_000
+most_beats = MOST_BEATS
 
 abbrev pub most_work : ℕ
-most_work = 2 ^ 34
+most_work = MOST_WORK
+
+-- the bytes of a loop file
+abbrev pub most_file_bytes : ℕ
+most_file_bytes = MOST_FILE_BYTES
 
 -- the first limit that is exceeded, in this order, with the count that exceeds it
 unfoldable pub first_limit_of : LoopValue → ℕ → Option LimitFault

@@ -10,17 +10,30 @@ use Rattle.sil_model.specs.declared.parts.Subsystem.{Subsystem}
 abbrev pub FullState : Type 0
 FullState = List Chan
 
+-- each pair is named, so that a further state is compared with each
 abbrev pub is_same_chan : Chan → Chan → Bool
 is_same_chan Work Work = true
+is_same_chan Work Hidden = false
+is_same_chan Work Deep = false
+is_same_chan Work Repair = false
+is_same_chan Hidden Work = false
 is_same_chan Hidden Hidden = true
+is_same_chan Hidden Deep = false
+is_same_chan Hidden Repair = false
+is_same_chan Deep Work = false
+is_same_chan Deep Hidden = false
 is_same_chan Deep Deep = true
+is_same_chan Deep Repair = false
+is_same_chan Repair Work = false
+is_same_chan Repair Hidden = false
+is_same_chan Repair Deep = false
 is_same_chan Repair Repair = true
-is_same_chan _ _ = false
 
 unfoldable pub is_same_state : FullState → FullState → Bool
 is_same_state [] [] = true
 is_same_state (a ∷ s) (b ∷ t) = is_same_chan a b && is_same_state s t
-is_same_state _ _ = false
+is_same_state [] (b ∷ t) = false
+is_same_state (a ∷ s) [] = false
 
 -- at the start every channel works
 unfoldable pub start_of : List Subsystem → FullState

@@ -65,12 +65,12 @@ pub struct Sizes {
 /// The limit that a loop exceeds, with the count that exceeds it.
 #[derive(Clone, Copy, Debug, PartialEq, Eq)]
 pub enum LimitFault {
-    /// More than 4,096 tests of channels, each channel at each hour counted as one.
+    /// More tests of channels than [`MOST_TESTS`](crate::MOST_TESTS).
     TooManyTests(u64),
-    /// More than 4,096 lumped states.
+    /// More lumped states than [`MOST_STATES`](crate::MOST_STATES).
     TooManyStates(u128),
-    /// More than 1,000,000 beats.
+    /// More beats than [`MOST_BEATS`](crate::MOST_BEATS).
     TooManyBeats(u64),
-    /// More work than 17,179,869,184.
+    /// More work than [`MOST_WORK`](crate::MOST_WORK).
     TooMuchWork(u64),
 }

@@ -7,6 +7,7 @@
 
 mod answers;
 mod counter;
+mod limits;
 mod parts;
 #[cfg(test)]
 mod tests;
@@ -15,6 +16,7 @@ mod whole;
 
 pub use answers::{Band, Decimal18, LimitFault, Sizes, Value};
 pub use counter::Steps;
+pub use limits::{MOST_BEATS, MOST_FILE_BYTES, MOST_STATES, MOST_TESTS, MOST_WORK};
 pub use parts::{Chan, ChannelFigures, Group, InRepair, Subsystem, TestPlan, Vote};
 pub use texts::Text;
 pub use whole::Loop;

@@ -15,6 +15,12 @@ counts_in_pieces mission phases states beats order =
         ≡ (((((m ++ sp) ++ a) ++ nl) ++ (((p ++ sp) ++ c) ++ nl)) ++ (((s ++ sp) ++ d) ++ nl)) ++ (((b ++ sp) ++ e) ++ nl) ++ (((o ++ sp) ++ f) ++ nl)
     regroup m p s b o sp nl a c d e f = simp append_assoc
 
+pub refusal_of_one : (a : List ℕ) → codes "refused: " ++ (a ++ codes "\n") ≡ refusal a
+refusal_of_one a = regroup (codes "refused: ") a (codes "\n")
+  where
+    regroup : (r a nl : List ℕ) → r ++ (a ++ nl) ≡ (r ++ a) ++ nl
+    regroup r a nl = simp append_assoc
+
 pub refusal_of_three : (a b c : List ℕ) → codes "refused: " ++ (a ++ (b ++ (c ++ codes "\n"))) ≡ refusal (a ++ b ++ c)
 refusal_of_three a b c = regroup (codes "refused: ") a b c (codes "\n")
   where

@@ -1,1 +1,4 @@
 pub mod Texts
+pub mod Intervals
+pub mod FixedBy
+pub mod Reports

@@ -1,15 +1,12 @@
 -- The texts that the program prints of sizes and refusals.
-use Rattle.std.specs.Prelude.{ℕ, List, [], ◌++◌, codes, decimal}
-use Rattle.std.specs.Fmt.{signed_decimal}
+use Rattle.std.specs.Prelude.{ℕ, List, ◌++◌, codes, decimal}
 use Rattle.sil_model.specs.LoopValue.{LoopValue}
-use Rattle.sil_model.specs.Sizes.{most_tests, most_states, most_beats, most_work}
+use Rattle.sil_model.specs.Sizes.{most_tests, most_states, most_beats, most_work, most_file_bytes}
 use Rattle.sil_model.specs.declared.answers.Sizes.{Sizes}
 use Rattle.sil_model.specs.declared.answers.LimitFault.{LimitFault}
 use Rattle.sil_model.specs.declared.answers.LimitFault.TheVariants.{TooManyTests, TooManyStates, TooManyBeats, TooMuchWork}
-use Rattle.sil_text.specs.declared.fault.TextFault.{TextFault}
-use Rattle.sil_text.specs.declared.fault.TextFault.TheVariants.{NotDecimal, TooFine, TooLarge, NotName, NotChoice}
+use Rattle.file_fault.specs.Fault.{fault_of}
 use Rattle.file_fault.specs.declared.FileFault.{FileFault}
-use Rattle.file_fault.specs.declared.FileFault.TheVariants.{Memory, NotToml, BadVersion, UnknownKey, Missing, WrongKind, BadText, OutOfRange, BadVote, SameName, UnknownType}
 
 -- a line is ended by a line feed
 abbrev pub line : List ℕ → List ℕ
@@ -37,7 +34,7 @@ abbrev pub refusal : List ℕ → List ℕ
 refusal cause = line (codes "refused: " ++ cause)
 
 abbrev pub too_long_line : List ℕ
-too_long_line = refusal (codes "file longer than 65536 bytes")
+too_long_line = refusal (codes "file longer than " ++ decimal most_file_bytes ++ codes " bytes")
 
 -- a count above its limit
 abbrev pub limit_of : LimitFault → List ℕ
@@ -49,27 +46,6 @@ limit_of (TooMuchWork n) = codes "work " ++ decimal n ++ codes ", limit " ++ dec
 unfoldable pub limit_fault_line_of : LimitFault → List ℕ
 limit_fault_line_of f = refusal (limit_of f)
 
--- what is wrong with a text
-abbrev pub text_fault_of : TextFault → List ℕ
-text_fault_of NotDecimal = codes "not a decimal"
-text_fault_of TooFine = codes "too fine"
-text_fault_of TooLarge = codes "too large"
-text_fault_of NotName = codes "not a name"
-text_fault_of NotChoice = codes "not a choice"
-
--- what is wrong with a loop file, and the path of the place; want of memory is no fault of the file
-abbrev pub fault_of : FileFault → List ℕ
-fault_of (Memory e) = []
-fault_of NotToml = codes "not TOML"
-fault_of (BadVersion n) = codes "version " ++ signed_decimal n
-fault_of (UnknownKey path) = codes "unknown key " ++ path
-fault_of (Missing path) = codes "missing " ++ path
-fault_of (WrongKind path) = codes "wrong kind " ++ path
-fault_of (BadText path fault) = codes "text " ++ path ++ codes " " ++ text_fault_of fault
-fault_of (OutOfRange path) = codes "out of range " ++ path
-fault_of (BadVote path) = codes "vote " ++ path
-fault_of (SameName path) = codes "same name " ++ path
-fault_of (UnknownType path) = codes "unknown type " ++ path
-
+-- what is wrong with a loop file
 unfoldable pub file_fault_line_of : FileFault → List ℕ
 file_fault_line_of f = refusal (fault_of f)

@@ -1,14 +1,20 @@
-//! The texts that the program prints of a loop's sizes and of what is refused.
+//! The texts that the program prints of a loop's sizes, of what is refused, and of how it is called.
 //!
 //! Every line is ended by a line feed. A text that depends on a value is a `Vec` of its bytes, and the only error is want
 //! of memory; a fixed text takes none.
 #![tactic(auto)]
 
+mod bands;
 mod refusals;
+mod reports;
 mod sizes;
+mod usage;
 
+pub use bands::{band_text, lines_fix_numbers};
 pub use refusals::{file_fault_text, limit_fault_text, too_long_text};
+pub use reports::report;
 pub use sizes::{counts_text, size_text};
+pub use usage::usage_text;
 
 #[cfg(test)]
 mod tests;

@@ -1,6 +1,6 @@
 //! Every line, written out.
 
-use crate::{file_fault_text, limit_fault_text, size_text, too_long_text};
+use crate::{file_fault_text, limit_fault_text, size_text, too_long_text, usage_text};
 use file_fault::FileFault;
 use sil_model::{ChannelFigures, InRepair, LimitFault, Loop, Sizes, Subsystem, Text, Vote};
 use sil_text::TextFault;
@@ -39,6 +39,22 @@ fn limits_are_named_with_their_counts(rt: HostRuntime) -> Result<(), Fail> {
         too_long_text(),
         "refused: file longer than 65536 bytes\n".as_bytes()
     );
+    Ok(())
+}
+
+#[test]
+fn usage_has_a_line_for_each_verb(rt: HostRuntime) -> Result<(), Fail> {
+    let lines = [
+        "usage: sil check NAME [--need 1|2|3|4] [--mode low|high|both] [--series]\n",
+        "       sil size NAME\n",
+        "       sil gen NUMBER\n",
+        "       sil bench NUMBER [--need 1|2|3|4] [--mode low|high|both] [--series]\n",
+    ];
+    let mut text = String::new(rt.alloc());
+    for line in lines {
+        text.push_str(line)?;
+    }
+    assert_eq!(rt; usage_text(), text.as_bytes());
     Ok(())
 }
 

@@ -1,4 +1,5 @@
 pub mod Figures
+pub mod FixedBy
 pub mod Names
 pub mod TenPowers
 pub mod DigitRuns

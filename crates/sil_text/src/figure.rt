@@ -2,6 +2,7 @@
 
 ghost use Rattle.std.specs.Prelude.{◌≡◌, ◌<◌, ◌^◌};
 ghost use Rattle.sil_text.specs.Figure.{decimal18};
+ghost use Rattle.sil_text.specs.FixedBy.{TextsFixNumbers};
 
 /// Writes `v` units of 10^-18 as one digit, a point and eighteen digits.
 ///
@@ -19,3 +20,9 @@ pub fn put_decimal18(v: u128) -> [u8; 20]
     text[0] = b'0' + rest as u8;
     text
 }
+
+/// One text stands for one number: a whole number or a figure is read back from what it is written as, whatever comes
+/// behind it.
+pub fn texts_fix_numbers()
+    ensures { TextsFixNumbers }
+{}

@@ -13,7 +13,7 @@ mod tens;
 
 pub use decimal::{read_millionths, read_rate, read_thousandths};
 pub use fault::TextFault;
-pub use figure::put_decimal18;
+pub use figure::{put_decimal18, texts_fix_numbers};
 pub use name::is_name;
 
 #[cfg(test)]

@@ -1,7 +1,8 @@
 //! Names of subsystems and types.
 
 ghost use Rattle.std.specs.Prelude.{◌≡◌, IsTrue, ◌↔◌};
-ghost use Rattle.sil_text.specs.Name.{IsName, is_name_text};
+ghost use Rattle.sil_model.specs.LoopValue.{IsName};
+ghost use Rattle.sil_text.specs.Name.{is_name_text};
 
 /// At most this many bytes are in a name.
 const MOST_BYTES: usize = 32;

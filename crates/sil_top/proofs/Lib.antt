@@ -1,6 +1,2 @@
-pub mod Weighing
-pub mod OneBeat
-pub mod Channel
-pub mod UnderWay
-pub mod Ends
-pub mod Texts
+pub mod Reports
+pub mod Handed

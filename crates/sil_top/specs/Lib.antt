@@ -1,4 +1,2 @@
-pub mod PlainLoop
-pub mod Weighs
 pub mod Report
 pub mod Run

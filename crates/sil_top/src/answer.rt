@@ -4,7 +4,7 @@ ghost use Rattle.std.specs.Prelude.{◌≡◌, IfOk};
 ghost use Rattle.sil_top.specs.Run.{FileCallsFor, LoopCallsFor};
 
 use crate::asked::Verb;
-use crate::check::checked;
+use crate::check::check;
 use file_fault::FileFault;
 use loop_file::read_loop;
 use loop_value::{ValueFault, measure};
@@ -19,7 +19,7 @@ pub enum Answer {
     Done(Vec<u8>),
     /// Why the file is refused.
     Refused(Vec<u8>),
-    /// The verb is not built for the loop.
+    /// The words ask for nothing that is built.
     NotBuilt,
 }
 
@@ -35,16 +35,6 @@ pub fn answer_to(alloc: Global, verb: Verb, bytes: &[u8]) -> Result<Answer, Allo
         Err(FileFault::Memory(e)) => Err(e),
         Err(fault) => Ok(Answer::Refused(file_fault_text(alloc, &fault)?)),
     }
-}
-
-/// The report of a plain loop.
-fn check(alloc: Global, l: &Loop) -> Result<Answer, AllocError>
-    ensures { IfOk result (LoopCallsFor Verb.Check l.now) }
-{
-    Ok(match checked(alloc, l)? {
-        Some(text) => Answer::Done(text),
-        None => Answer::NotBuilt,
-    })
 }
 
 /// The sizes of a loop, or the first limit that it exceeds.

@@ -1,47 +1,43 @@
 //! The verb `check`.
 
-ghost use Rattle.std.specs.Prelude.{◌≡◌, ◌<◌, IfOk, IfSome, IsSome, IsNone};
-ghost use Rattle.sil_top.specs.PlainLoop.{IsPlain, IsChannelOf};
-ghost use Rattle.sil_top.specs.Report.{IsTrueReport};
+ghost use Rattle.std.specs.Prelude.{◌≡◌, ◌<◌, IfOk};
+ghost use Rattle.sil_top.specs.Report.{ReportsFixFigures};
+ghost use Rattle.sil_top.specs.Run.{LoopCallsFor};
 
-use crate::bands::pfd_band;
-use crate::mission::pfd_interval;
-use crate::plain::{Channel, plain_channel};
-use crate::report::report;
+use crate::answer::Answer;
+use crate::asked::Verb;
+use loop_value::{ValueFault, value};
 use sil_model::{Loop, Steps};
+use sil_report::{limit_fault_text, report};
 use std::alloc::{AllocError, Global};
 use std::marker::Brand;
 use std::sync::ledger::{Blank, Ledger};
-use test_calendar::beats_of;
 
-/// The report of a loop, and `None` where the loop is not plain.
-pub fn checked(alloc: Global, l: &Loop) -> Result<Option<Vec<u8>>, AllocError>
-    ensures report { IfOk result (λ answer. IfSome answer (λ text. IsTrueReport l.now text.items)) }
-    ensures plain { IfOk result (λ answer. IsSome answer → IsPlain l.now) }
-    ensures not_plain { IfOk result (λ answer. IsNone answer → IsPlain l.now → ⊥) }
+/// The report of a loop, or the first limit that it exceeds.
+pub fn check(alloc: Global, l: &Loop) -> Result<Answer, AllocError>
+    ensures { IfOk result (LoopCallsFor Verb.Check l.now) }
 {
-    let Some(channel) = plain_channel(l) else {
-        return Ok(None);
-    };
-    let text = evaluate::<Brand>(alloc, l, &channel, Blank::new(1))?;
-    Ok(Some(text))
+    evaluate::<Brand>(alloc, l, Blank::new(1))
 }
 
-/// The report of a plain loop, with a count of its products that has no bytes.
-fn evaluate<L: Ledger>(
-    alloc: Global,
-    l: &Loop,
-    channel: &Channel,
-    blank: Blank,
-) -> Result<Vec<u8>, AllocError>
-    requires plain { IsChannelOf l.now channel.now.mission channel.now.du channel.now.repair }
+/// The same, with a count of the products that has no bytes.
+fn evaluate<L: Ledger>(alloc: Global, l: &Loop, blank: Blank) -> Result<Answer, AllocError>
     requires name { blank.name ≡ L.name }
     requires parts { blank.parts ≡ L.parts }
     requires some { 0 < blank.parts }
-    ensures { IfOk result (λ text. IsTrueReport l.now text.items) }
+    ensures { IfOk result (LoopCallsFor Verb.Check l.now) }
 {
+    // The values of a loop are in their ranges.
+    let _ = l.mission();
     let mut steps = Steps::<L>::open(blank);
-    let beats = beats_of(l, u64::from(l.mission()));
-    let pfd = pfd_interval(channel, beats, &mut steps);
-    report(alloc, l, beats, pfd, pfd_band(pfd))
+    match value(alloc, l, l.order(), &mut steps) {
+        Ok(value) => Ok(Answer::Done(report(alloc, l, &value)?)),
+        Err(ValueFault::Limit(fault)) => Ok(Answer::Refused(limit_fault_text(alloc, &fault)?)),
+        Err(ValueFault::Memory(fault)) => Err(fault),
+    }
 }
+
+/// A report tells its figures: no other ends and no other bands have the same text.
+pub fn reports_fix_figures()
+    ensures { ReportsFixFigures }
+{}

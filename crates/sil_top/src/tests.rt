@@ -54,48 +54,192 @@ fn units(figure: &str) -> u128 {
     units
 }
 
-/// What is changed in the file of one channel, the lines before the interval, two neighbours that the interval holds and
-/// the band. The figures are closed forms: PFDavg is `1 - (1 - e^-x)/x` with x the rate times the mission time.
+/// What stands between two texts.
+fn between<'a>(text: &'a str, start: &str, end: &str) -> Result<&'a str, Fail> {
+    let (_, rest) = text.split_once(start).ok_or("no start")?;
+    let (part, _) = rest.split_once(end).ok_or("no end")?;
+    Ok(part)
+}
+
+/// Whether the interval of this line holds this number, and nothing follows it but the band.
+fn holds(line: &str, figure: u128, band: &str) -> Result<bool, Fail> {
+    let (lo, rest) = line.split_once(" .. ").ok_or("no ends")?;
+    let (hi, told) = rest.split_once(' ').ok_or("no band")?;
+    Ok(units(lo) <= figure && figure <= units(hi) && told == band)
+}
+
+/// A loop, by what is changed in the file of one channel and what stands at its end, and what its report has to say.
+struct Row {
+    part: &'static str,
+    by: &'static str,
+    more: &'static str,
+    counts: &'static str,
+    pfd: u128,
+    pfd_band: &'static str,
+    pfh: u128,
+    pfh_band: &'static str,
+}
+
+/// The number of a row lies in the interval whatever is cut off behind its last digit.
+const ROWS: [Row; 10] = [
+    Row {
+        part: "",
+        by: "",
+        more: "",
+        counts: "mission 8760;phases 1;states 4;beats 1096;order 28;",
+        pfd: 4_367_238_360_223_395,
+        pfd_band: "SIL 2",
+        pfh: 995_632_761_639,
+        pfh_band: "SIL 2",
+    },
+    Row {
+        part: "1oo1",
+        by: "1oo2",
+        more: "",
+        counts: "mission 8760;phases 1;states 10;beats 2191;order 28;",
+        pfd: 25_411_829_522_432,
+        pfd_band: "SIL 4",
+        pfh: 8_683_653_061,
+        pfh_band: "SIL 4",
+    },
+    Row {
+        part: "1.0E-6",
+        by: "0",
+        more: "",
+        counts: "mission 8760;phases 1;states 4;beats 1095;order 28;",
+        pfd: 0,
+        pfd_band: "beyond SIL 4",
+        pfh: 0,
+        pfh_band: "beyond SIL 4",
+    },
+    Row {
+        part: "8760",
+        by: "1",
+        more: "",
+        counts: "mission 1;phases 1;states 4;beats 1;order 28;",
+        pfd: 499_999_833_333,
+        pfd_band: "beyond SIL 4",
+        pfh: 999_999_500_000,
+        pfh_band: "SIL 2",
+    },
+    Row {
+        part: "mission = 8760",
+        by: "order = 16;mission = 8760",
+        more: "",
+        counts: "mission 8760;phases 1;states 4;beats 1096;order 16;",
+        pfd: 4_367_238_360_223_395,
+        pfd_band: "SIL 2",
+        pfh: 995_632_761_639,
+        pfh_band: "SIL 2",
+    },
+    Row {
+        part: "",
+        by: "",
+        more: "dd = \"1.0E-5\";in_repair = \"tripped\"",
+        counts: "mission 8760;phases 1;states 4;beats 1096;order 28;",
+        pfd: 4_366_890_661_381_011,
+        pfd_band: "SIL 2",
+        pfh: 995_553_537_472,
+        pfh_band: "SIL 2",
+    },
+    Row {
+        part: "",
+        by: "",
+        more: "dd = \"1.0E-5\"",
+        counts: "mission 8760;phases 1;states 4;beats 1096;order 28;",
+        pfd: 4_446_462_527_386_423,
+        pfd_band: "SIL 2",
+        pfh: 10_951_088_912_198,
+        pfh_band: "no SIL",
+    },
+    Row {
+        part: "8760;[[subsystem]];name = \"sif\";vote = \"1oo1\";du = \"1.0E-6\"",
+        by: "100;[[subsystem]];name = \"sif\";vote = \"1oo1\";du = \"0\"",
+        more: "restart_fault = \"0.02\";test = { first = 50, every = 100 }",
+        counts: "mission 100;phases 2;states 4;beats 14;order 28;",
+        pfd: 10_000_000_000_000_000,
+        pfd_band: "undecided",
+        pfh: 200_000_000_000_000,
+        pfh_band: "no SIL",
+    },
+    Row {
+        part: "8760;[[subsystem]];name = \"sif\";vote = \"1oo1\";du = \"1.0E-6\"",
+        by: "100;[[type]];name = \"t\";repair = 8;in_repair = \"tripped\";[[subsystem]];name = \"a\";type = \"t\";vote = \"1oo1\";du = \"0\";restart_fault = \"1\"",
+        more: "test = { first = 25, every = 50 };[[subsystem]];name = \"b\";type = \"t\";vote = \"1oo1\";du = \"0\";restart_fault = \"0.1\";test = { first = 75, every = 100 }",
+        counts: "mission 100;phases 3;states 16;beats 27;order 28;",
+        pfd: 525_000_000_000_000_000,
+        pfd_band: "no SIL",
+        pfh: 10_000_000_000_000_000,
+        pfh_band: "no SIL",
+    },
+    Row {
+        part: "8760;[[subsystem]];name = \"sif\";vote = \"1oo1\";du = \"1.0E-6\";repair = 8",
+        by: "43800;[[subsystem]];name = \"sif\";vote = \"1oo1\";du = \"1.0E-6\";repair = 24",
+        more: "coverage = \"0.9\";test = { every = 8760, full_each = 3 }",
+        counts: "mission 43800;phases 5;states 4;beats 1830;order 28;",
+        pfd: 5_080_233_877_036_655,
+        pfd_band: "SIL 2",
+        pfh: 994_919_766_122,
+        pfh_band: "SIL 2",
+    },
+];
+
+/// The figures are closed forms, for example `1 - (1 - e^-x)/x` with x the rate times the mission time, or come from an
+/// independent computation in exact fractions over the full states.
 #[test]
-fn reports_of_plain_loops(rt: HostRuntime) -> Result<(), Fail> {
+fn reports(rt: HostRuntime) -> Result<(), Fail> {
     let alloc = rt.alloc();
-    let cases = [
-        (
-            "",
-            "",
-            "mission 8760\nphases 1\nstates 4\nbeats 1096\norder 28\npfd ",
-            4_367_238_360_223_395,
-            4_367_238_360_223_396,
-            " SIL 2\n",
-        ),
-        (
-            "1.0E-6",
-            "0",
-            "mission 8760\nphases 1\nstates 4\nbeats 1095\norder 28\npfd 0.000000000000000000 .. ",
-            0,
-            0,
-            " beyond SIL 4\n",
-        ),
-        (
-            "mission = 8760",
-            "order = 28\nmission = 1",
-            "mission 1\nphases 1\nstates 4\nbeats 1\norder 28\npfd ",
-            499_999_833_333,
-            499_999_833_334,
-            " beyond SIL 4\n",
-        ),
-    ];
-    for (part, by, head, low, high, band) in cases {
-        let file = changed(alloc, part, by, "")?;
+    for row in &ROWS {
+        let file = changed_lines(alloc, row)?;
         let (status, text) = ran(alloc, "check loop.toml", file.as_bytes(), 1000)?;
-        assert_eq!(rt; status, Status::Done, "{by}");
-        assert!(rt; text.as_str().starts_with(head), "{text}");
-        assert!(rt; text.as_str().ends_with(band), "{text}");
-        let (_, line) = text.as_str().split_once("pfd ").ok_or("no interval")?;
-        let (lo, rest) = line.split_once(" .. ").ok_or("no ends")?;
-        let (hi, _) = rest.split_once(' ').ok_or("no band")?;
-        assert!(rt; units(lo) <= low && high <= units(hi), "{text}");
+        let text = text.as_str();
+        let counts = row.counts.replace(alloc, ";", "\n")?;
+        assert_eq!(rt; status, Status::Done, "{text}");
+        assert!(rt; text.starts_with(counts.as_str()), "{text}");
+        assert!(rt;
+            holds(between(text, "pfd ", "\n")?, row.pfd, row.pfd_band)?,
+            "{text}"
+        );
+        assert!(rt;
+            holds(between(text, "pfh ", "\n")?, row.pfh, row.pfh_band)?,
+            "{text}"
+        );
+        assert_eq!(rt; text.lines().count(), 7);
     }
+    Ok(())
+}
+
+/// The file of a row, whose lines end with `;` there.
+fn changed_lines(alloc: Global, row: &Row) -> Result<String, AllocError> {
+    let part = row.part.replace(alloc, ";", "\n")?;
+    let by = row.by.replace(alloc, ";", "\n")?;
+    let more = row.more.replace(alloc, ";", "\n")?;
+    changed(alloc, part.as_str(), by.as_str(), more.as_str())
+}
+
+/// Sensors, logic and valves over ten days, tested every 80 hours: the counts, the figures of an independent computation over
+/// the full states, and the bands.
+#[test]
+fn report_of_three_subsystems(rt: HostRuntime) -> Result<(), Fail> {
+    let alloc = rt.alloc();
+    let file = THREE_SUBSYSTEMS
+        .replace(alloc, "26280", "240")?
+        .replace(alloc, "8760", "80")?;
+    let (status, text) = ran(alloc, "check loop.toml", file.as_bytes(), 1000)?;
+    let text = text.as_str();
+    assert_eq!(rt; status, Status::Done);
+    assert!(rt;
+        text.starts_with("mission 240\nphases 3\nstates 800\nbeats 63\norder 28\npfd "),
+        "{text}"
+    );
+    assert!(rt;
+        holds(between(text, "pfd ", "\n")?, 25_039_916_120_531, "SIL 4")?,
+        "{text}"
+    );
+    assert!(rt;
+        holds(between(text, "pfh ", "\n")?, 1_001_486_007_159, "SIL 1")?,
+        "{text}"
+    );
     Ok(())
 }
 
@@ -200,11 +344,6 @@ fn sizes_of_three_subsystems(rt: HostRuntime) -> Result<(), Fail> {
         text.as_str(),
         "mission 26280\nphases 5\nstates 1280\nbeats 6575\norder 28\nwork 235648000\n"
     );
-    let (status, text) = ran(alloc, "check loop.toml", THREE_SUBSYSTEMS.as_bytes(), 1000)?;
-    assert_eq!(rt;
-        (status, text.as_str()),
-        (Status::NotBuilt, "refused: not built\n")
-    );
     Ok(())
 }
 
@@ -298,18 +437,40 @@ fn byte_of_no_text(rt: HostRuntime) -> Result<(), Fail> {
     Ok(())
 }
 
+/// The exit status of the program is the number of its status.
+#[test]
+fn exit_statuses(rt: HostRuntime) {
+    for (status, number) in [
+        (Status::Done, 0),
+        (Status::FileRefused, 3),
+        (Status::ReadFault, 4),
+        (Status::WriteFault, 5),
+        (Status::Memory, 6),
+        (Status::NotBuilt, 7),
+    ] {
+        assert_eq!(rt; status as u8, number);
+    }
+}
+
 /// A file as long as a loop file may be, and one byte longer.
 #[test]
 fn longest_file(rt: HostRuntime) -> Result<(), Fail> {
     let alloc = rt.alloc();
     let mut file: Vec<u8> = Vec::new(alloc);
     file.extend_from_slice(ONE_CHANNEL.as_bytes())?;
-    file.resize(FILE_LIMIT, b'#')?;
-    let (status, text) = ran(alloc, "size loop.toml", &file, 1000)?;
-    assert_eq!(rt; status, Status::Done, "{text}");
-    assert!(rt; text.as_str().ends_with("work 122752\n"), "{text}");
+    file.resize(MOST_FILE_BYTES, b'#')?;
+    let (status, text) = ran(alloc, "check loop.toml", &file, 1000)?;
+    assert_eq!(rt;
+        (status, text.as_str()),
+        (
+            Status::Done,
+            "mission 8760\nphases 1\nstates 4\nbeats 1096\norder 28\n\
+            pfd 0.004367238356476121 .. 0.004367238380083905 SIL 2\n\
+            pfh 0.000000995632761619 .. 0.000000995632761644 SIL 2\n"
+        )
+    );
     file.push(b'#')?;
-    let answer = ran(alloc, "size loop.toml", &file, 1000)?;
+    let answer = ran(alloc, "check loop.toml", &file, 1000)?;
     assert_eq!(rt;
         (answer.0, answer.1.as_str()),
         (

@@ -8,12 +8,9 @@ ghost use Rattle.sil_model.specs.declared.answers.LimitFault.TheVariants.{TooMan
 ghost use Rattle.test_calendar.specs.GroupTests.{group_tests_at, spread_over};
 
 use crate::{Plan, channel_tests};
-use sil_model::{LimitFault, Loop};
+use sil_model::{LimitFault, Loop, MOST_TESTS};
 use std::alloc::{AllocError, Global};
 use thiserror::Error;
-
-/// The most tests of channels that a loop may have.
-const MOST_TESTS: u64 = 4096;
 
 /// Why a loop has no plan.
 #[derive(Debug, Drop, Error)]
@@ -26,8 +23,8 @@ pub enum PlanFault {
     Memory(AllocError),
 }
 
-/// The phases of a loop, and the group tests between them. A loop with more than 4,096 tests of channels is refused
-/// before any hour is looked at.
+/// The phases of a loop, and the group tests between them. A loop with more tests of channels than
+/// [`MOST_TESTS`] is refused before any hour is looked at.
 pub fn plan(alloc: Global, l: &Loop) -> Result<Plan, PlanFault>
     ensures phases { IfOk result (λ p. p.phases ≡ phases_of l.now) }
     ensures tests { IfOk result (λ p. p.tests ≡ map (group_tests_at l.now) (test_hours_of l.now)) }

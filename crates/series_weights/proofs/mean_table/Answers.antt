@@ -1,7 +1,7 @@
 use Rattle.std.proofs.Common.{◌≡◌, ◌+◌, ◌-◌, ◌<◌, ◌≢◌, length, slice_index, refl, sym, ap, arith, inl, inr, get_or-set_other, get_or-set_same}
 use Rattle.std.proofs.Math.ListN.{length-set}
 use Rattle.std.proofs.lemmas.Bool.{cases_lt}
-use Rattle.series_weights.specs.Weights.{weight_of, mean_weight_of}
+use Rattle.sil_model.specs.WeightTable.{weight_of, mean_weight_of}
 use Rattle.series_weights.proofs.Sums.{mean_last, mean_next, mean_le}
 use Rattle.series_weights.proofs.mean_table.Goals as goal
 

@@ -1,5 +1,5 @@
 use Rattle.std.proofs.Common.{◌≡◌, ℕ, ◌<◌, ◌≤◌, length, slice_index}
-use Rattle.series_weights.specs.Weights.{mean_weight_of}
+use Rattle.sil_model.specs.WeightTable.{mean_weight_of}
 use Rattle.series_weights.proofs.mean_table.Given as goal
 
 abbrev pub invariant-loop-k : goal.invariant-loop-k

@@ -1,4 +1,4 @@
-use Rattle.std.proofs.Common.{◌≡◌, ◌∙◌, sym, ap, Err, false}
+use Rattle.std.proofs.Common.{◌≡◌, ◌∙◌, refl, sym, ap, Err, false}
 use Rattle.std.proofs.lemmas.Str.{is_utf8-from_IsUtf8, IsUtf8-string_bytes}
 use Rattle.std.proofs.lemmas.Bool.{false≢true}
 use Rattle.std.specs.String.{string_bytes}
@@ -10,8 +10,9 @@ use Rattle.loop_print.proofs.print.print_loop.Goals as goal
 pub returns-in-Ok : goal.returns-in-Ok
 returns-in-Ok c =
     let same = c.in_ok-table.ensures.table in
+    let bytes : c.into_bytes.result.items ≡ string_bytes c.in-Ok.text = rw (c.into_bytes.ensures.value) refl in
     let tree = canonical_tree c.args.l.now (string_bytes c.in-Ok.text) (is_utf8-from_IsUtf8 _ (IsUtf8-string_bytes c.in-Ok.text)) (rw same at c.in-Ok.ensures.reads_back) in
-    record { canonical = tree; reads_back = canonical_is_loop c.args.l.now (string_bytes c.in-Ok.text) c.in_ok-table.ensures.valid tree }
+    rw bytes (record { canonical = tree; reads_back = canonical_is_loop c.args.l.now (string_bytes c.in-Ok.text) c.in_ok-table.ensures.valid tree })
 
 pub unreachable-requires : goal.unreachable-requires
 unreachable-requires c =

@@ -1,7 +1,7 @@
 use Rattle.std.proofs.Common.{◌≡◌, ◌+◌, ◌^◌, arith, slice_index}
 use Rattle.sil_fraction.specs.Sum.{sum_below}
 use Rattle.sil_fraction.proofs.Sums.{sum-none, sum-next}
-use Rattle.series_weights.specs.Weights.{weight_of, missing_of}
+use Rattle.sil_model.specs.WeightTable.{weight_of, missing_of}
 use Rattle.series_weights.proofs.Sums.{sum_weights_le, missing_rest, means_are_many}
 use Rattle.series_weights.proofs.Weights.missing.Goals as goal
 

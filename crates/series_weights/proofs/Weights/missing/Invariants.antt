@@ -1,6 +1,6 @@
 use Rattle.std.proofs.Common.{◌≡◌, ◌+◌, ◌^◌}
 use Rattle.sil_fraction.specs.Sum.{sum_below}
-use Rattle.series_weights.specs.Weights.{weight_of}
+use Rattle.sil_model.specs.WeightTable.{weight_of}
 use Rattle.series_weights.proofs.Weights.missing.Given as goal
 
 abbrev pub invariant-loop-k : goal.invariant-loop-k

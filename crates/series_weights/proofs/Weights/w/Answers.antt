@@ -1,5 +1,5 @@
 use Rattle.std.proofs.Common.{◌≡◌, arith}
-use Rattle.series_weights.specs.Weights.{weight_of}
+use Rattle.sil_model.specs.WeightTable.{weight_of}
 use Rattle.series_weights.proofs.Below.{below_term}
 use Rattle.series_weights.proofs.Sums.{weight_falls, weight_le}
 use Rattle.series_weights.proofs.Weights.w.Goals as goal

@@ -1,5 +1,5 @@
 use Rattle.std.proofs.Common.{◌≡◌, arith}
-use Rattle.series_weights.specs.Weights.{mean_weight_of}
+use Rattle.sil_model.specs.WeightTable.{mean_weight_of}
 use Rattle.series_weights.proofs.Below.{below_tail}
 use Rattle.series_weights.proofs.Sums.{mean_le}
 use Rattle.series_weights.proofs.Weights.y.Goals as goal

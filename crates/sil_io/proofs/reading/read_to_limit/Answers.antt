@@ -1,6 +1,8 @@
 use Rattle.std.proofs.Common.{◌+◌, ◌-◌, ◌≤◌, ◌++◌, take, drop, length, arith, ◌∙◌, ap, sym}
 use Rattle.std.proofs.lemmas.List.{length-take}
 use Rattle.sil_io.proofs.Buffers.{take-filled, taken-more}
+use Rattle.sil_io.proofs.HandedBytes.{handed-more_is}
+use Rattle.sil_io.specs.Handed.{handed_more}
 use Rattle.sil_io.proofs.reading.read_to_limit.Goals as goal
 
 pub loop-preserved : goal.loop-preserved
@@ -19,6 +21,9 @@ loop-preserved g c =
           (c.loop.invariant.taken told ∙ ap (λ xs. take c.loop.filled xs ++ g.S.Shelf.left c.loop.shelf) (sym c.deref_mut.ensures.value))
           (take-filled c.loop.filled c.in-Ok.count _ c.deref_mut.result.now c.read.new.buf _ _ in_buffer within (omega arith))
           (c.in-Ok.ensures.given told) (c.in-Ok.ensures.rest told);
+      handed = handed-more_is _ _ _ c.in-Ok.ensures.handed
+          (c.loop.invariant.handed ∙ ap (λ xs. handed_more (g.S.Shelf.handed c.args.shelf.now) (take c.loop.filled xs)) (sym c.deref_mut.ensures.value))
+          (take-filled c.loop.filled c.in-Ok.count _ c.deref_mut.result.now c.read.new.buf _ _ in_buffer within (omega arith));
       picked_stays = cc;
       files_stay = λ told name. c.in-Ok.ensures.files_stay told name ∙ c.loop.invariant.files_stay told name;
       faults_never_fall = omega arith;

@@ -1,5 +1,7 @@
--- The bytes that were left are those at the front of the buffer and those that are left now.
+-- The bytes that were handed out are those at the front of the buffer, and those that were left are they and those that
+-- are left now.
 use Rattle.std.proofs.Common.{◌≡◌, ℕ, ◌+◌, ◌≤◌, ◌++◌, List, take, vec_len, IsTrue}
+use Rattle.sil_io.specs.Handed.{handed_more}
 use Rattle.sil_io.proofs.reading.read_to_limit.Given as goal
 
 abbrev pub invariant-loop : goal.invariant-loop
@@ -8,6 +10,7 @@ invariant-loop g l = record {
   in_range : l.filled ≤ l.limit + 1;
   room : vec_len l.bytes ≡ l.limit + 1;
   taken : IsTrue g.S.Shelf.tells → g.S.Shelf.left l.initial.shelf ≡ take l.filled l.bytes.items ++ g.S.Shelf.left l.shelf;
+  handed : g.S.Shelf.handed l.shelf ≡ handed_more (g.S.Shelf.handed l.initial.shelf) (take l.filled l.bytes.items);
   picked_stays : g.S.Shelf.picked l.shelf ≡ g.S.Shelf.picked l.initial.shelf;
   files_stay : IsTrue g.S.Shelf.tells → (name : List ℕ) → g.S.Shelf.file l.shelf name ≡ g.S.Shelf.file l.initial.shelf name;
   faults_never_fall : g.S.Shelf.faults l.initial.shelf ≤ g.S.Shelf.faults l.shelf;

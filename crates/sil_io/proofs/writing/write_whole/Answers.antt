@@ -12,5 +12,8 @@ loop-done-preserved g c =
       sent = λ told. c.in_ok-count.ensures.appended told
           ∙ ap (λ xs. xs ++ take c.in_ok-count.count (take (length c.args.bytes.now - c.loop-done.done) (drop c.loop-done.done c.args.bytes.now))) (c.loop-done.invariant.sent told)
           ∙ sent-more c.loop-done.done c.in_ok-count.count _ _ c.args.bytes.now within;
+      taken = c.in_ok-count.ensures.taken
+          ∙ ap (λ xs. xs ++ take c.in_ok-count.count (take (length c.args.bytes.now - c.loop-done.done) (drop c.loop-done.done c.args.bytes.now))) c.loop-done.invariant.taken
+          ∙ sent-more c.loop-done.done c.in_ok-count.count _ _ c.args.bytes.now within;
       faults_never_fall = omega arith;
     }

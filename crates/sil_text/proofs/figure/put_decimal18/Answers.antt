@@ -14,7 +14,7 @@ loop-place-preserved c = record {
 }
 
 pub returns : goal.returns
-returns c = decimal18_from_digits _ _
+returns c = decimal18_from_digits _ _ c.requires
     (grind (arith, common_steps))
     (grind (arith, common_steps, leading c.args.v))
     (grind (arith, common_steps))

@@ -1,6 +1,7 @@
 use Rattle.std.proofs.Common.{false, Decides, rules}
 use Rattle.std.proofs.lemmas.Bool.Decides.{same_from_decides}
-use Rattle.sil_text.specs.Name.{IsName, is_name_text}
+use Rattle.sil_model.specs.LoopValue.{IsName}
+use Rattle.sil_text.specs.Name.{is_name_text}
 use Rattle.sil_text.proofs.Names.{decides_name}
 use Rattle.sil_text.proofs.name.is_name.Goals as goal
 

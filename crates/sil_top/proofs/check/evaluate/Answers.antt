@@ -1,6 +1,9 @@
-use Rattle.sil_top.proofs.Channel.{beats_of_plain}
+use Rattle.sil_top.proofs.Reports.{true_report_at}
 use Rattle.sil_top.proofs.check.evaluate.Goals as goal
 
-pub pfd_interval-pfd-requires-clause-beats : goal.pfd_interval-pfd-requires-clause-beats
-pfd_interval-pfd-requires-clause-beats g c = λ besides. rw (c.beats_of-beats.ensures.beats, c.from.ensures, c.mission.ensures.mission)
-    (beats_of_plain c.args.l.now c.args.channel.now.mission c.args.channel.now.du c.args.channel.now.repair c.requires.plain besides)
+-- the figures of the loop, as its report tells them
+pub returns-in-Ok : goal.returns-in-Ok
+returns-in-Ok g c =
+    true_report_at c.args.l.now c.mission.ensures.valid c.order.result c.order.ensures c.in-Ok.ensures.within c.in-Ok.value c.in_ok-report-in-Ok.field-0.items
+    c.in_ok-report-in-Ok.ensures c.in-Ok.ensures.pfd c.in-Ok.ensures.pfh c.in-Ok.ensures.pfd_width c.in-Ok.ensures.pfh_width
+    c.in-Ok.ensures.phases c.in-Ok.ensures.states c.in-Ok.ensures.beats c.in-Ok.ensures.order

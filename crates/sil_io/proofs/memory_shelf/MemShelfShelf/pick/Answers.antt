@@ -1,7 +1,8 @@
 use Rattle.std.proofs.Common.{◌≡◌, Some, None, refl, ◌∙◌, ap, sym, subst, Option, List, ℕ, IsSome, rules}
 use Rattle.std.specs.List.{position}
+use Rattle.sil_io.specs.Handed.{just_picked}
 use Rattle.sil_io.specs.ShelfState.{bytes_under, bytes_at, has_name}
-use Rattle.sil_io.proofs.Files.{bytes_under-place, bytes_under-None}
+use Rattle.sil_io.proofs.Files.{bytes_under-place, bytes_under-None, name_at-place}
 use Rattle.sil_io.proofs.memory_shelf.MemShelfShelf.pick.Goals as goal
 
 pub returns-in-Some-clause-whole : goal.returns-in-Some-clause-whole
@@ -10,6 +11,12 @@ returns-in-Some-clause-whole c =
     ap (position (has_name c.args.name.now)) (sym c.deref.ensures.value) ∙ sym c.in-Some.ensures in
     ap (λ s. bytes_under s.files c.args.name.now) (sym c.self.view_is)
     ∙ bytes_under-place c.args.name.now c.self.inside.files.items c.in-Some.place place_is
+
+pub returns-in-Some-clause-anew : goal.returns-in-Some-clause-anew
+returns-in-Some-clause-anew c =
+    let place_is : position (has_name c.args.name.now) c.self.inside.files.items ≡ Some c.in-Some.place =
+    ap (position (has_name c.args.name.now)) (sym c.deref.ensures.value) ∙ sym c.in-Some.ensures in
+    ap just_picked (name_at-place c.args.name.now c.self.inside.files.items c.in-Some.place place_is)
 
 pub returns-in-Some-clause-found : goal.returns-in-Some-clause-found
 returns-in-Some-clause-found c =

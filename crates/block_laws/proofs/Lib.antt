@@ -1,0 +1,5 @@
+pub mod Sums
+pub mod Moments
+pub mod Ticks
+pub mod Blocks
+pub mod Phases

@@ -1,0 +1,4 @@
+pub mod CountsOf
+pub mod AfterTests
+pub mod SameCounts
+pub mod Laws

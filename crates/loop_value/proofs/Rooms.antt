@@ -1,0 +1,27 @@
+-- The hours and beats of a phase are within those of the mission, and so is the dwell before it.
+use Rattle.std.proofs.Common.{◌≡◌, ℕ, zero, suc, ◌+◌, ◌*◌, ◌^◌, ◌<◌, ◌≤◌, List, [], ◌∷◌, length, sum, get_or, take, refl, sym, ap, ◌∙◌, arith}
+use Rattle.std.specs.Prelude.{sum_by, All}
+use Rattle.std.proofs.Math.Nat.{mul-le-mul_right}
+use Rattle.std.proofs.lemmas.List.Sums.{sum_by-cons, get_or-le-sum_by}
+use Rattle.std.proofs.lemmas.List.Elements.{All-get_or}
+use Rattle.sil_model.specs.Calendar.{Phase, phases_of, beats_of}
+use Rattle.sil_model.specs.LoopValue.{LoopValue, IsValid, IsWithin}
+use Rattle.sil_model.specs.Sizes.{all_beats_of}
+use Rattle.test_calendar.proofs.PhasesOfLoop.{phases_of_fill, phases_of_last}
+use Rattle.vector_laws.proofs.Masses.{place-le}
+use Rattle.mission_laws.specs.Losses.{hours_until}
+
+-- a sum up to a place, and what stands there
+until-and-at : (f : Phase → ℕ) (ps : List Phase) (p : ℕ) (d : Phase) → p < length ps → sum_by f (take p ps) + f (get_or ps p d) ≤ sum_by f ps
+until-and-at f [] p d h = absurd (omega arith)
+until-and-at f (x ∷ ps) zero d h = omega (arith, sum_by-cons f x ps)
+until-and-at f (x ∷ ps) (suc p) d h =
+    omega (arith, sum_by-cons f x ps, sum_by-cons f x (take p ps), until-and-at f ps p d (omega arith))
+
+module _ (l : LoopValue) (p : ℕ) (d : Phase) (within : p < length (phases_of l)) where
+  pub hours-within : hours_until l p + (get_or (phases_of l) p d).hours ≤ l.mission
+  hours-within = omega (arith, until-and-at (λ (q : Phase). q.hours) (phases_of l) p d within, phases_of_fill l)
+
+  pub beats-within : beats_of l.subsystems (get_or (phases_of l) p d).hours ≤ all_beats_of l
+  unfolding all_beats_of
+  beats-within = get_or-le-sum_by (λ (q : Phase). beats_of l.subsystems q.hours) (phases_of l) p d within

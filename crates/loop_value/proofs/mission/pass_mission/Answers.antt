@@ -1,0 +1,87 @@
+use Rattle.std.proofs.Common.{◌≡◌, ◌+◌, ◌-◌, ◌*◌, ◌≤◌, ◌<◌, ℕ, suc, length, get_or, List, ap, ◌∙◌, arith}
+use Rattle.sil_model.specs.Calendar.{Phase, phases_of, test_hours_of, beats_of}
+use Rattle.sil_model.specs.Figures.{no_phase}
+use Rattle.test_calendar.proofs.PhasesOfLoop.{length-phases_of}
+use Rattle.mission_laws.specs.Losses.{beats_until, group_tests_until}
+use Rattle.mission_laws.proofs.Losses.{beats-more, group_tests-more}
+use Rattle.uniformise.specs.Beat.{beat_products}
+use Rattle.loop_value.specs.Mission.{HasReached, test_products}
+use Rattle.loop_value.proofs.Reached.{hours-at, few_beats, roomy, counted_last, lost_last, few_last, products_last}
+use Rattle.loop_value.proofs.mission.pass_mission.Goals as goal
+
+pub loop-p-preserved : goal.loop-p-preserved
+loop-p-preserved g c =
+    let one : suc c.loop-p.p ≡ c.loop-p.p + 1 = omega arith in
+    let phases : c.phases-last.result ≡ length (phases_of c.args.l.now) = c.phases-last.ensures.phases ∙ ap (λ (ps : List Phase). length ps) c.requires.plan.phases in
+    record {
+      parts = c.pass_to_next-passages.ensures.parts;
+      weights = c.pass_to_next-passages.ensures.weights ∙ c.loop-p.invariant.weights;
+      reached = rw (c.loop-p.invariant.weights, one) at c.pass_to_next-passages.ensures.reached;
+      v = c.pass_to_next-passages.auto.v ∙ c.loop-p.invariant.v;
+      mean = c.pass_to_next-passages.auto.mean ∙ c.loop-p.invariant.mean;
+      dwell = c.pass_to_next-passages.auto.dwell ∙ c.loop-p.invariant.dwell;
+      counted = omega (
+        arith,
+        rw c.loop-p.invariant.weights at c.pass_to_next-passages.ensures.steps,
+        c.loop-p.invariant.counted,
+        ap (λ n. n * beat_products c.args.l.now.subsystems c.args.m.now.weights)
+            (beats-more c.args.l.now c.loop-p.p no_phase (omega (arith, phases, c.loop-p-test.true))),
+        ap (λ n. n * test_products c.args.l.now.subsystems)
+            (group_tests-more c.args.l.now c.loop-p.p 0 (omega (arith, phases, c.loop-p-test.true, length-phases_of c.args.l.now))),
+      );
+    }
+
+pub pass_phase-requires-clause-few : goal.pass_phase-requires-clause-few
+pass_phase-requires-clause-few g c =
+    let phases : c.phases-last.result ≡ length (phases_of c.args.l.now) = c.phases-last.ensures.phases ∙ ap (λ (ps : List Phase). length ps) c.requires.plan.phases in
+    few_beats c.args.l.now (c.phases-last.result - 1) c.hours.result 1_000_000 (omega (arith, phases, c.phases-last.ensures.some))
+    (hours-at c.args.plan.now.phases c.args.l.now (c.phases-last.result - 1) c.hours.result (c.hours.ensures.hours no_phase) c.requires.plan.phases) c.requires.few
+
+pub pass_phase-requires-clause-room : goal.pass_phase-requires-clause-room
+pass_phase-requires-clause-room g c =
+    let phases : c.phases-last.result ≡ length (phases_of c.args.l.now) = c.phases-last.ensures.phases ∙ ap (λ (ps : List Phase). length ps) c.requires.plan.phases in
+    let last : c.loop-p.p ≡ c.phases-last.result - 1 = omega (arith, c.loop-p-test.false, c.loop-p.auto.p-end) in
+    let reached : HasReached c.args.l.now c.args.m.now.weights (c.phases-last.result - 1) c.loop-p.dwell c.loop-p.v c.loop-p.passages.least c.loop-p.passages.most =
+    rw last at c.loop-p.invariant.reached in
+    roomy c.args.l.now c.requires.plan.valid (c.phases-last.result - 1) c.hours.result no_phase (omega (arith, phases, c.phases-last.ensures.some))
+    (hours-at c.args.plan.now.phases c.args.l.now (c.phases-last.result - 1) c.hours.result (c.hours.ensures.hours no_phase) c.requires.plan.phases)
+    c.loop-p.dwell reached.lost.dwell_mass
+
+pub returns-clause-counted : goal.returns-clause-counted
+returns-clause-counted g c =
+    let phases : c.phases-last.result ≡ length (phases_of c.args.l.now) = c.phases-last.ensures.phases ∙ ap (λ (ps : List Phase). length ps) c.requires.plan.phases in
+    let last : c.loop-p.p ≡ c.phases-last.result - 1 = omega (arith, c.loop-p-test.false, c.loop-p.auto.p-end) in
+    counted_last c.args.l.now c.args.m.now.weights (c.phases-last.result - 1) (omega (arith, phases, c.phases-last.ensures.some)) c.loop-p.passages.least c.loop-p.passages.most
+    c.hours.result c.loop-p.dwell c.loop-p.v c.pass_phase.new.dwell c.pass_phase.new.v
+    (hours-at c.args.plan.now.phases c.args.l.now (c.phases-last.result - 1) c.hours.result (c.hours.ensures.hours no_phase) c.requires.plan.phases)
+    (rw last at c.loop-p.invariant.reached) (rw c.loop-p.invariant.weights at c.pass_phase.ensures.passes) (rw c.loop-p.invariant.weights at c.pass_phase.ensures.loses)
+
+pub returns-clause-lost : goal.returns-clause-lost
+returns-clause-lost g c =
+    let phases : c.phases-last.result ≡ length (phases_of c.args.l.now) = c.phases-last.ensures.phases ∙ ap (λ (ps : List Phase). length ps) c.requires.plan.phases in
+    let last : c.loop-p.p ≡ c.phases-last.result - 1 = omega (arith, c.loop-p-test.false, c.loop-p.auto.p-end) in
+    lost_last c.args.l.now c.args.m.now.weights (c.phases-last.result - 1) (omega (arith, phases, c.phases-last.ensures.some)) c.loop-p.passages.least c.loop-p.passages.most
+    c.hours.result c.loop-p.dwell c.loop-p.v c.pass_phase.new.dwell c.pass_phase.new.v
+    (hours-at c.args.plan.now.phases c.args.l.now (c.phases-last.result - 1) c.hours.result (c.hours.ensures.hours no_phase) c.requires.plan.phases)
+    (rw last at c.loop-p.invariant.reached) (rw c.loop-p.invariant.weights at c.pass_phase.ensures.passes) (rw c.loop-p.invariant.weights at c.pass_phase.ensures.loses)
+
+pub returns-clause-few : goal.returns-clause-few
+returns-clause-few g c =
+    let phases : c.phases-last.result ≡ length (phases_of c.args.l.now) = c.phases-last.ensures.phases ∙ ap (λ (ps : List Phase). length ps) c.requires.plan.phases in
+    let last : c.loop-p.p ≡ c.phases-last.result - 1 = omega (arith, c.loop-p-test.false, c.loop-p.auto.p-end) in
+    omega (arith, c.loop-p.invariant.reached.few, last, phases, c.phases-last.ensures.some, length-phases_of c.args.l.now)
+
+pub returns-clause-steps : goal.returns-clause-steps
+returns-clause-steps g c =
+    let phases : c.phases-last.result ≡ length (phases_of c.args.l.now) = c.phases-last.ensures.phases ∙ ap (λ (ps : List Phase). length ps) c.requires.plan.phases in
+    let last : c.loop-p.p ≡ c.phases-last.result - 1 = omega (arith, c.loop-p-test.false, c.loop-p.auto.p-end) in
+    omega (
+      arith,
+      rw c.loop-p.invariant.weights at c.pass_phase.ensures.steps,
+      rw last at c.loop-p.invariant.counted,
+      products_last c.args.l.now c.args.m.now.weights (c.phases-last.result - 1) (omega (arith, phases, c.phases-last.ensures.some)) c.loop-p.passages.least c.loop-p.passages.most
+          c.hours.result c.loop-p.dwell c.loop-p.v c.pass_phase.new.dwell c.pass_phase.new.v
+          (hours-at c.args.plan.now.phases c.args.l.now (c.phases-last.result - 1) c.hours.result (c.hours.ensures.hours no_phase) c.requires.plan.phases)
+          (rw last at c.loop-p.invariant.reached) (rw c.loop-p.invariant.weights at c.pass_phase.ensures.passes) (rw c.loop-p.invariant.weights at c.pass_phase.ensures.loses)
+          (beat_products c.args.l.now.subsystems c.args.m.now.weights) (test_products c.args.l.now.subsystems),
+    )

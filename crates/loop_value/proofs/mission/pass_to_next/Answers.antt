@@ -1,0 +1,58 @@
+use Rattle.std.proofs.Common.{◌≡◌, ◌+◌, ◌*◌, ◌≤◌, ◌<◌, ℕ, suc, [], length, get_or, List, ap, ◌∙◌, arith}
+use Rattle.std.specs.Prelude.{map}
+use Rattle.sil_model.specs.Calendar.{Phase, phases_of, test_hours_of, beats_of}
+use Rattle.sil_model.specs.Figures.{no_phase}
+use Rattle.sil_model.specs.Budget.{group_tests_in}
+use Rattle.sil_model.specs.LoopValue.{LoopValue}
+use Rattle.test_calendar.specs.declared.groups.GroupTest.{GroupTest}
+use Rattle.test_calendar.specs.GroupTests.{group_tests_at}
+use Rattle.test_matrix.specs.declared.whole.Passed.{Passed}
+use Rattle.test_matrix.specs.HourTests.{Exist}
+use Rattle.uniformise.specs.Beat.{beat_products}
+use Rattle.loop_value.specs.Mission.{test_products}
+use Rattle.loop_value.proofs.Reached.{hours-at, few_beats, roomy, reached_next, exist_tests, counted_tests}
+use Rattle.loop_value.proofs.mission.pass_to_next.Goals as goal
+
+pub pass_phase-requires-clause-few : goal.pass_phase-requires-clause-few
+pass_phase-requires-clause-few g c =
+    few_beats c.args.l.now c.args.p c.hours.result 1_000_000 (omega (arith, c.requires.more))
+    (hours-at c.args.plan.now.phases c.args.l.now c.args.p c.hours.result (c.hours.ensures.hours no_phase) c.requires.plan.phases) c.requires.few
+
+pub pass_phase-requires-clause-room : goal.pass_phase-requires-clause-room
+pass_phase-requires-clause-room g c =
+    roomy c.args.l.now c.requires.plan.valid c.args.p c.hours.result no_phase (omega (arith, c.requires.more))
+    (hours-at c.args.plan.now.phases c.args.l.now c.args.p c.hours.result (c.hours.ensures.hours no_phase) c.requires.plan.phases)
+    c.args.dwell.now c.requires.reached.lost.dwell_mass
+
+pub apply-passed-requires-clause-exist : goal.apply-passed-requires-clause-exist
+apply-passed-requires-clause-exist g c =
+    let tests : c.tests_after.result.now ≡ get_or (map (group_tests_at c.args.l.now) (test_hours_of c.args.l.now)) c.args.p [] =
+    c.tests_after.ensures.tests ∙ ap (λ (ts : List (List GroupTest)). get_or ts c.args.p []) c.requires.plan.tests in
+    let all : Exist c.args.l.now.subsystems c.tests_after.result.now = exist_tests c.args.l.now c.args.p c.requires.more c.tests_after.result.now tests in
+    rw (ap (λ (l : LoopValue). l.subsystems) c.pass_phase.ensures.parts.tests) all
+
+pub returns-clause-reached : goal.returns-clause-reached
+returns-clause-reached g c =
+    let tests : c.tests_after.result.now ≡ get_or (map (group_tests_at c.args.l.now) (test_hours_of c.args.l.now)) c.args.p [] =
+    c.tests_after.ensures.tests ∙ ap (λ (ts : List (List GroupTest)). get_or ts c.args.p []) c.requires.plan.tests in
+    reached_next c.args.l.now c.args.m.now.weights c.args.p c.requires.more c.args.before.least c.args.before.most c.apply-passed.result.lo c.apply-passed.result.hi c.hours.result
+    c.args.dwell.now c.args.v.now c.pass_phase.new.dwell c.pass_phase.new.v c.apply-passed.new.v c.tests_after.result.now
+    (hours-at c.args.plan.now.phases c.args.l.now c.args.p c.hours.result (c.hours.ensures.hours no_phase) c.requires.plan.phases)
+    c.requires.reached c.pass_phase.ensures.passes c.pass_phase.ensures.loses tests
+    c.apply-passed.ensures.kept c.apply-passed.result.ordered c.apply-passed.result.at_most_one
+    (rw c.pass_phase.ensures.parts.tests at c.apply-passed.ensures.encloses) (rw c.pass_phase.ensures.parts.tests at c.apply-passed.ensures.lo)
+    (rw c.pass_phase.ensures.parts.tests at c.apply-passed.ensures.hi) (rw c.pass_phase.ensures.parts.tests at c.apply-passed.ensures.loss) c.apply-passed.ensures.width
+
+pub returns-clause-steps : goal.returns-clause-steps
+returns-clause-steps g c =
+    let tests : c.tests_after.result.now ≡ get_or (map (group_tests_at c.args.l.now) (test_hours_of c.args.l.now)) c.args.p [] =
+    c.tests_after.ensures.tests ∙ ap (λ (ts : List (List GroupTest)). get_or ts c.args.p []) c.requires.plan.tests in
+    let hours : c.hours.result ≡ (get_or (phases_of c.args.l.now) c.args.p no_phase).hours =
+    hours-at c.args.plan.now.phases c.args.l.now c.args.p c.hours.result (c.hours.ensures.hours no_phase) c.requires.plan.phases in
+    omega (
+      arith,
+      c.pass_phase.ensures.steps,
+      rw (c.pass_phase.ensures.parts.tests) at c.apply-passed.ensures.steps,
+      ap (λ h. beats_of c.args.l.now.subsystems h * beat_products c.args.l.now.subsystems c.args.m.now.weights) hours,
+      ap (λ n. n * test_products c.args.l.now.subsystems) (counted_tests c.args.l.now c.args.p c.requires.more c.tests_after.result.now tests),
+    )

@@ -1,0 +1,172 @@
+//! The figures of a loop.
+
+ghost use Rattle.std.specs.Prelude.{◌≡◌, ℕ, ◌+◌, ◌*◌, ◌^◌, ◌≤◌, ◌<◌, ◌↔◌, Bool, None, Some, length, slice_index, slice_index_or, IfOk, OnOk};
+ghost use Rattle.sil_fraction.specs.Fraction.{ratio};
+ghost use Rattle.sil_model.specs.Budget.{failure_rate_of, group_tests_of, pfd_width_of, pfh_width_of};
+ghost use Rattle.sil_model.specs.Calendar.{phases_of};
+ghost use Rattle.sil_model.specs.Figures.{pfd_of, pfh_of, Contains18};
+ghost use Rattle.sil_model.specs.Pay.Mode.{Entry};
+ghost use Rattle.sil_model.specs.Sizes.{all_beats_of, states_of, most_states, most_beats, first_limit_of};
+ghost use Rattle.sil_model.specs.State.{is_up_of};
+ghost use Rattle.sil_model.specs.declared.answers.LimitFault.{LimitFault};
+ghost use Rattle.sil_model.specs.declared.answers.LimitFault.TheVariants.{TooManyTests, TooManyStates};
+ghost use Rattle.lumped_laws.specs.PayList.{payoff_list};
+ghost use Rattle.lumped_laws.specs.StateOfCounts.{state_numbered};
+ghost use Rattle.uniformise.specs.Beat.{beat_products};
+ghost use Rattle.loop_value.specs.Mission.{IsOf, IsPlanOf, HasReached, test_products};
+ghost use Rattle.loop_value.specs.Sizes.{sizes_of, value_products};
+
+use crate::ends::{divide, pfh_interval, sides};
+use crate::measuring::{ValueFault, lay_out};
+use crate::mission::{Machine, pass_mission};
+use crate::preparing::prepare;
+use entry_rates::failure_rate;
+use interval_fixed::{Interval, ONE};
+use sil_model::{Decimal18, LimitFault, Loop, Sizes, Steps, Value};
+use std::alloc::{AllocError, Global};
+use std::sync::ledger::Ledger;
+use test_calendar::Plan;
+
+/// PFDavg and PFH of a loop, each as an interval that holds the figure of every order of the series from the one given on, and
+/// that is no wider than the error budget allows.
+///
+/// The limits are those of [`crate::measure`]. All memory is taken before the first beat.
+pub fn value<L: Ledger>(
+    alloc: Global,
+    l: &Loop,
+    order: u8,
+    steps: &mut Steps<L>,
+) -> Result<Value, ValueFault>
+    requires least { 16 ≤ order }
+    requires greatest { order ≤ 40 }
+    ensures pfd { IfOk result (λ v. (N : ℕ) → order ≤ N → Contains18 v.pfd.lo v.pfd.hi (pfd_of N l.now)) }
+    ensures pfh { IfOk result (λ v. (N : ℕ) → order ≤ N → Contains18 v.pfh.lo v.pfh.hi (pfh_of N l.now)) }
+    ensures pfd_width { IfOk result (λ v. v.pfd.hi ≤ v.pfd.lo + pfd_width_of l.now order) }
+    ensures pfh_width { IfOk result (λ v. v.pfh.hi ≤ v.pfh.lo + pfh_width_of l.now order) }
+
+    ensures phases { IfOk result (λ v. v.phases ≡ length (phases_of l.now)) }
+    ensures states { IfOk result (λ v. v.states ≡ states_of l.now.subsystems) }
+    ensures beats { IfOk result (λ v. v.beats ≡ all_beats_of l.now) }
+    ensures order { IfOk result (λ v. v.order ≡ order) }
+
+    ensures within { OnOk result (first_limit_of l.now order ≡ None) }
+    ensures first { (f : LimitFault) → result ≡ Err (ValueFault.Limit f) → first_limit_of l.now order ≡ Some f }
+    // no want of memory comes before these two
+    ensures too_many_tests { (n : ℕ) → (result ≡ Err (ValueFault.Limit (TooManyTests n))) ↔ (first_limit_of l.now order ≡ Some (TooManyTests n)) }
+    ensures too_many_states { (n : ℕ) → (result ≡ Err (ValueFault.Limit (TooManyStates n))) ↔ (first_limit_of l.now order ≡ Some (TooManyStates n)) }
+
+    ensures products { OnOk result (steps.new ≤ steps.old + value_products l.now order) }
+{
+    let planned = match lay_out(alloc, l, order) {
+        Ok(planned) => planned,
+        Err(fault) => return Err(fault),
+    };
+    match compute(alloc, l, &planned.plan, planned.sizes, order, steps) {
+        Ok(value) => Ok(value),
+        Err(fault) => Err(ValueFault::Memory(fault)),
+    }
+}
+
+/// The value of a loop that exceeds no limit, and has this plan and these sizes.
+fn compute<L: Ledger>(
+    alloc: Global,
+    l: &Loop,
+    plan: &Plan,
+    sizes: Sizes,
+    order: u8,
+    steps: &mut Steps<L>,
+) -> Result<Value, AllocError>
+    requires plan { IsPlanOf l.now plan.now }
+    requires sizes { sizes ≡ sizes_of l.now order }
+    requires few_states { states_of l.now.subsystems ≤ most_states }
+    requires few_beats { all_beats_of l.now ≤ most_beats }
+    requires least { 16 ≤ order }
+    requires greatest { order ≤ 40 }
+    ensures pfd { IfOk result (λ v. (N : ℕ) → order ≤ N → Contains18 v.pfd.lo v.pfd.hi (pfd_of N l.now)) }
+    ensures pfh { IfOk result (λ v. (N : ℕ) → order ≤ N → Contains18 v.pfh.lo v.pfh.hi (pfh_of N l.now)) }
+    ensures pfd_width { IfOk result (λ v. v.pfd.hi ≤ v.pfd.lo + pfd_width_of l.now order) }
+    ensures pfh_width { IfOk result (λ v. v.pfh.hi ≤ v.pfh.lo + pfh_width_of l.now order) }
+    ensures phases { IfOk result (λ v. v.phases ≡ length (phases_of l.now)) }
+    ensures states { IfOk result (λ v. v.states ≡ states_of l.now.subsystems) }
+    ensures beats { IfOk result (λ v. v.beats ≡ all_beats_of l.now) }
+    ensures order { IfOk result (λ v. v.order ≡ order) }
+    ensures products { OnOk result (steps.new ≤ steps.old + value_products l.now order) }
+{
+    let mut parts = prepare(alloc, l, plan, order)?;
+    let figures = evaluate(
+        &mut parts.machine,
+        l,
+        plan,
+        parts.up.as_slice(),
+        parts.rates.as_slice(),
+        parts.v.as_mut_slice(),
+        parts.mean.as_mut_slice(),
+        parts.dwell.as_mut_slice(),
+        steps,
+    );
+    Ok(Value {
+        pfd: figures.pfd,
+        pfh: figures.pfh,
+        phases: sizes.phases,
+        states: sizes.states,
+        beats: sizes.beats,
+        order,
+    })
+}
+
+/// The two figures of a loop.
+#[derive(Clone, Copy)]
+struct Figures {
+    pfd: Decimal18,
+    pfh: Decimal18,
+}
+
+/// The figures of a loop, by its machine and its vectors at the start.
+fn evaluate<L: Ledger>(
+    machine: &mut Machine,
+    l: &Loop,
+    plan: &Plan,
+    up: &[bool],
+    rates: &[u64],
+    v: &mut [u128],
+    mean: &mut [u128],
+    dwell: &mut [u128],
+    steps: &mut Steps<L>,
+) -> Figures
+    requires plan { IsPlanOf l.now plan.now }
+    requires few_states { states_of l.now.subsystems ≤ most_states }
+    requires few_beats { all_beats_of l.now ≤ most_beats }
+    requires parts { IsOf l.now machine.old }
+    requires order { 16 ≤ machine.old.weights }
+    requires up_length { length up.now ≡ states_of l.now.subsystems }
+    requires up { (i : ℕ) (d : Bool) → i < states_of l.now.subsystems → slice_index_or up.now i d ≡ is_up_of l.now.subsystems (state_numbered l.now.subsystems i) }
+    requires rates_length { length rates.now ≡ states_of l.now.subsystems }
+    requires rates { (i : ℕ) → i < states_of l.now.subsystems → ratio (slice_index rates.now i) (10 ^ 18) ≡ payoff_list l.now.subsystems Entry i }
+    requires rates_within { (i : ℕ) → slice_index rates.now i ≤ failure_rate_of l.now.subsystems }
+    requires v { length v.old ≡ states_of l.now.subsystems }
+    requires mean { length mean.old ≡ states_of l.now.subsystems }
+    requires dwell { length dwell.old ≡ states_of l.now.subsystems }
+    requires start { HasReached l.now machine.old.weights 0 dwell.old v.old 0 0 }
+    ensures pfd { (N : ℕ) → machine.old.weights ≤ N → Contains18 result.pfd.lo result.pfd.hi (pfd_of N l.now) }
+    ensures pfh { (N : ℕ) → machine.old.weights ≤ N → Contains18 result.pfh.lo result.pfh.hi (pfh_of N l.now) }
+    ensures pfd_width { result.pfd.hi ≤ result.pfd.lo + pfd_width_of l.now machine.old.weights }
+    ensures pfh_width { result.pfh.hi ≤ result.pfh.lo + pfh_width_of l.now machine.old.weights }
+    ensures products { steps.new ≤ steps.old + value_products l.now machine.old.weights }
+{
+    let passages = pass_mission(machine, l, plan, v, mean, dwell, steps);
+    divide(dwell, l.mission());
+    let (down, above) = sides(dwell, up);
+    let lack = ONE - down - above;
+    Figures {
+        pfd: Interval::from_parts(down, above).to_decimal18(),
+        pfh: pfh_interval(
+            dwell,
+            rates,
+            failure_rate(l),
+            lack,
+            l.mission(),
+            passages,
+            steps,
+        ),
+    }
+}

@@ -1,0 +1,171 @@
+//! The mission of a loop: one vector pushed forward from phase to phase.
+
+ghost use Rattle.std.specs.Prelude.{◌≡◌, ℕ, suc, ◌+◌, ◌-◌, ◌*◌, ◌^◌, ◌<◌, ◌≤◌, length, All};
+ghost use Rattle.sil_model.specs.Budget.{beat_loss_of, group_tests_of};
+ghost use Rattle.sil_model.specs.Calendar.{phases_of, test_hours_of, beats_of};
+ghost use Rattle.sil_model.specs.LoopValue.{IsWithin};
+ghost use Rattle.sil_model.specs.Sizes.{states_of, all_beats_of, most_beats};
+ghost use Rattle.vector_laws.specs.Vectors.{IsMass};
+ghost use Rattle.mission_laws.specs.Losses.{LosesInPhase, HasLostInAll};
+ghost use Rattle.mission_laws.specs.Missions.{HasCounted};
+ghost use Rattle.mission_laws.specs.UnderWay.{PassesPhase};
+ghost use Rattle.uniformise.specs.Beat.{beat_products};
+ghost use Rattle.loop_value.specs.Mission.{IsOf, IsPlanOf, HasReached, greatest_of, phase_products, tests_products, test_products};
+
+use lumping::Space;
+use phase_run::run_phase;
+use product_chain::Chain;
+use series_weights::Weights;
+use sil_model::{Loop, Steps};
+use std::sync::ledger::Ledger;
+use test_calendar::{Plan, beats_of};
+use test_matrix::Tests;
+use uniformise::Workspace;
+
+/// What pushes a vector through the mission of a loop. Its memory is taken at once, before the first beat.
+#[derive(Drop)]
+pub struct Machine {
+    /// The count vectors of the loop.
+    pub space: Space,
+    /// The chain of one tick, timed for a phase of `hours`.
+    pub chain: Chain,
+    /// The hours of the phase that the chain is timed for.
+    pub hours: u64,
+    /// The weights of a beat.
+    pub weights: Weights,
+    /// Room for a beat.
+    pub work: Workspace,
+    /// The tests of an hour.
+    pub tests: Tests,
+}
+
+/// What has passed at the tests of the mission so far from up to down, in units of 2^-48: at least and at most.
+#[derive(Clone, Copy, Debug, PartialEq, Eq)]
+pub struct Passages {
+    /// No more than has passed.
+    pub least: u128,
+    /// No less than has passed.
+    pub most: u128,
+}
+
+/// Times the chain for a phase of so many hours, if it is not timed so already.
+fn retime(m: &mut Machine, l: &Loop, hours: u64, beats: u64)
+    requires parts { IsOf l.now m.old }
+    requires hours { IsWithin 1 350_400 hours }
+    requires beats { beats ≡ beats_of l.now.subsystems hours }
+    requires few { beats ≤ most_beats }
+    ensures parts { IsOf l.now m.new }
+    ensures hours { m.new.hours ≡ hours }
+    ensures weights { m.new.weights ≡ m.old.weights }
+{
+    if hours != m.hours {
+        m.chain.retime(l, &m.space, hours, beats);
+        m.hours = hours;
+    }
+}
+
+/// One phase of so many hours: the vector goes to its end, `mean` becomes its mean over the phase, and the dwell grows by
+/// the hours times that mean.
+fn pass_phase<L: Ledger>(
+    m: &mut Machine,
+    l: &Loop,
+    hours: u64,
+    v: &mut [u128],
+    mean: &mut [u128],
+    dwell: &mut [u128],
+    steps: &mut Steps<L>,
+)
+    requires parts { IsOf l.now m.old }
+    requires hours { IsWithin 1 350_400 hours }
+    requires few { beats_of l.now.subsystems hours ≤ most_beats }
+    requires v { length v.old ≡ states_of l.now.subsystems }
+    requires mean { length mean.old ≡ states_of l.now.subsystems }
+    requires dwell { length dwell.old ≡ states_of l.now.subsystems }
+    requires mass { IsMass v.old }
+    requires room { All (λ x. x + hours * 2 ^ 48 ≤ 350_400 * 2 ^ 48) dwell.old }
+    ensures parts { IsOf l.now m.new }
+    ensures weights { m.new.weights ≡ m.old.weights }
+    ensures passes { PassesPhase l.now.subsystems m.old.weights hours (beats_of l.now.subsystems hours) v.old v.new dwell.old dwell.new }
+    ensures loses { LosesInPhase (beats_of l.now.subsystems hours * beat_loss_of l.now.subsystems m.old.weights) hours (states_of l.now.subsystems)
+        v.old v.new dwell.old dwell.new }
+    ensures steps { steps.new ≤ steps.old + beats_of l.now.subsystems hours * beat_products l.now.subsystems m.old.weights }
+{
+    let beats = beats_of(l, hours);
+    retime(m, l, hours, beats);
+    run_phase(
+        &mut m.work,
+        &m.chain,
+        &m.weights,
+        beats,
+        hours,
+        v,
+        mean,
+        dwell,
+        steps,
+    );
+}
+
+/// The phase `p`, which is not the last, and the tests of the hour that ends it.
+fn pass_to_next<L: Ledger>(
+    m: &mut Machine,
+    l: &Loop,
+    plan: &Plan,
+    p: usize,
+    v: &mut [u128],
+    mean: &mut [u128],
+    dwell: &mut [u128],
+    before: Passages,
+    steps: &mut Steps<L>,
+) -> Passages
+    requires plan { IsPlanOf l.now plan.now }
+    requires few { all_beats_of l.now ≤ most_beats }
+    requires more { suc p < length (phases_of l.now) }
+    requires parts { IsOf l.now m.old }
+    requires v { length v.old ≡ states_of l.now.subsystems }
+    requires mean { length mean.old ≡ states_of l.now.subsystems }
+    requires dwell { length dwell.old ≡ states_of l.now.subsystems }
+    requires reached { HasReached l.now m.old.weights p dwell.old v.old before.least before.most }
+    ensures parts { IsOf l.now m.new }
+    ensures weights { m.new.weights ≡ m.old.weights }
+    ensures reached { HasReached l.now m.old.weights (suc p) dwell.new v.new result.least result.most }
+    ensures steps { steps.new ≤ steps.old + phase_products l.now m.old.weights p + tests_products l.now p }
+{
+    pass_phase(m, l, plan.hours(p), v, mean, dwell, steps);
+    let passed = m.tests.apply(plan.tests_after(p), v, steps);
+    Passages {
+        least: before.least + passed.lo,
+        most: before.most + passed.hi,
+    }
+}
+
+/// All phases, and the tests between them. `v` stands at the start, and the dwell is 0.
+pub fn pass_mission<L: Ledger>(
+    m: &mut Machine,
+    l: &Loop,
+    plan: &Plan,
+    v: &mut [u128],
+    mean: &mut [u128],
+    dwell: &mut [u128],
+    steps: &mut Steps<L>,
+) -> Passages
+    requires plan { IsPlanOf l.now plan.now }
+    requires few { all_beats_of l.now ≤ most_beats }
+    requires parts { IsOf l.now m.old }
+    requires v { length v.old ≡ states_of l.now.subsystems }
+    requires mean { length mean.old ≡ states_of l.now.subsystems }
+    requires dwell { length dwell.old ≡ states_of l.now.subsystems }
+    requires start { HasReached l.now m.old.weights 0 dwell.old v.old 0 0 }
+    ensures counted { (n : ℕ) → m.old.weights ≤ n
+        → HasCounted l.now (greatest_of l.now) n dwell.new result.least (length (test_hours_of l.now) * 2 ^ 48 - result.most) }
+    ensures lost { HasLostInAll l.now m.old.weights dwell.new result.least result.most }
+    ensures few { result.most ≤ length (test_hours_of l.now) * 2 ^ 48 }
+    ensures steps { steps.new ≤ steps.old + all_beats_of l.now * beat_products l.now.subsystems m.old.weights + group_tests_of l.now * test_products l.now.subsystems }
+{
+    let last = plan.phases() - 1;
+    let mut passages = Passages { least: 0, most: 0 };
+    for p in 0..last {
+        passages = pass_to_next(m, l, plan, p, v, mean, dwell, passages, steps);
+    }
+    pass_phase(m, l, plan.hours(last), v, mean, dwell, steps);
+    passages
+}

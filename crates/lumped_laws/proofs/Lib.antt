@@ -1,0 +1,12 @@
+pub mod Lengths
+pub mod GroupCounts
+pub mod LaidOut
+pub mod GroupChannels
+pub mod States
+pub mod Steady
+pub mod Ticks
+pub mod TestHours
+pub mod LinearLists
+pub mod Pays
+pub mod Phases
+pub mod Figures

@@ -1,0 +1,10 @@
+pub mod CountsOfState
+pub mod StateOfCounts
+pub mod GroupLaws
+pub mod StateLaws
+pub mod ValueLists
+pub mod Listed
+pub mod LinearLists
+pub mod PayList
+pub mod PayLaws
+pub mod FigureLaws

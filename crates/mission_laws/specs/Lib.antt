@@ -1,0 +1,6 @@
+pub mod Counted
+pub mod Paid
+pub mod Calm
+pub mod Missions
+pub mod UnderWay
+pub mod Losses

@@ -1,0 +1,5 @@
+pub mod Steps
+pub mod Columns
+pub mod Kept
+pub mod Floors
+pub mod Weights

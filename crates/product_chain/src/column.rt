@@ -1,0 +1,138 @@
+//! The columns of a chain: what each count vector takes in a tick.
+
+ghost use Rattle.std.specs.Prelude.{◌≡◌, ℕ, ◌+◌, ◌*◌, ◌/◌, ◌<◌, ◌≤◌, ◌^◌, ◌++◌, length, map, slice_index, vec_capacity, vec_len, sum, All};
+ghost use Rattle.product_chain.specs.Columns.{AreParts, AreWeighted, part, timed, stay_of, kept, entries_of, given};
+
+use crate::moves::{Move, TickRate};
+use interval_fixed::{Dot, ONE, ratio_down, ratio_up};
+use sil_model::Steps;
+use std::sync::ledger::Ledger;
+
+/// What a count vector takes from another in a tick.
+#[derive(Clone, Copy, Debug, PartialEq, Eq)]
+pub struct Entry {
+    /// The count vector that is left.
+    pub source: u32,
+    /// The chance, in units of 2^-48, rounded down.
+    pub weight: u64,
+}
+
+/// Sets the chances of the rates, where so many beats take so many hours.
+pub fn set_rates(rates: &mut [TickRate], hours: u64, beats: u64)
+    requires some { 1 ≤ beats }
+    requires few { beats ≤ 1_000_000 }
+    requires divisors { All (λ r. (0 < r.den) × (r.den ≤ 10 ^ 18)) rates.old }
+    requires slow { All (λ r. hours * r.num ≤ beats * r.den) rates.old }
+    ensures { rates.new ≡ map (timed hours beats) rates.old }
+{
+    for rate in rates.iter_mut() {
+        let num = u128::from(hours) * rate.num;
+        let den = u128::from(beats) * rate.den;
+        rate.down = ratio_down(num, den) as u64;
+        rate.up = ratio_up(num, den) as u64;
+    }
+}
+
+/// Sets what stays at each count vector: 1 less the chances of its moves, rounded up, or 0.
+pub fn set_stays(stays: &mut [u64], moves: &[Move], rates: &[TickRate])
+    requires known { All (λ m. m.rate < length rates.now) moves.now }
+    requires sources { All (λ m. m.source < length stays.old) moves.now }
+    ensures { (i : ℕ) → i < length stays.new → slice_index stays.new i ≡ stay_of rates.now moves.now i }
+{
+    stays.fill(ONE as u64);
+    for m in moves {
+        let leaves = rates[m.rate as usize].up;
+        let stay = &mut stays[m.source as usize];
+        *stay = stay.saturating_sub(leaves);
+    }
+}
+
+/// Fills the columns, in the order of their targets, and where they begin.
+pub fn fill(
+    entries: &mut Vec<Entry>,
+    starts: &mut [usize],
+    moves: &[Move],
+    move_starts: &[usize],
+    rates: &[TickRate],
+    stays: &[u64],
+)
+    requires few { length stays.now < 2 ^ 32 }
+    requires known { All (λ m. m.rate < length rates.now) moves.now }
+    requires parts { AreParts (length stays.now) move_starts.now moves.now }
+    requires starts { length starts.old ≡ length stays.now + 1 }
+    requires first { slice_index starts.old 0 ≡ 0 }
+    requires room { length moves.now + length stays.now ≤ vec_capacity entries.old }
+    ensures parts { AreParts (length stays.now) starts.new entries.new.items }
+    ensures columns { (j : ℕ) → j < length stays.now → part starts.new entries.new.items j ≡ entries_of rates.now (part move_starts.now moves.now j) ++ kept j (slice_index stays.now j) }
+    ensures room { length moves.now + length stays.now ≤ vec_capacity entries.new }
+{
+    entries.clear();
+    for j in 0..stays.len() {
+        push_moves(entries, &moves[move_starts[j]..move_starts[j + 1]], rates);
+        push_entry(entries, j as u32, stays[j]);
+        starts[j + 1] = entries.len();
+    }
+}
+
+/// Adds an entry for each move that has a weight.
+fn push_moves(entries: &mut Vec<Entry>, moves: &[Move], rates: &[TickRate])
+    requires known { All (λ m. m.rate < length rates.now) moves.now }
+    requires room { vec_len entries.old + length moves.now ≤ vec_capacity entries.old }
+    ensures items { entries.new.items ≡ entries.old.items ++ entries_of rates.now moves.now }
+    ensures capacity { vec_capacity entries.old ≤ vec_capacity entries.new }
+    ensures len { vec_len entries.new ≤ vec_len entries.old + length moves.now }
+{
+    for m in moves {
+        push_entry(entries, m.source, rates[m.rate as usize].down);
+    }
+}
+
+/// Adds an entry, if it has a weight. There is room for it.
+fn push_entry(entries: &mut Vec<Entry>, source: u32, weight: u64)
+    requires { vec_len entries.old < vec_capacity entries.old }
+    ensures items { entries.new.items ≡ entries.old.items ++ kept source weight }
+    ensures capacity { vec_capacity entries.old ≤ vec_capacity entries.new }
+    ensures len { vec_len entries.new ≤ vec_len entries.old + 1 }
+{
+    if weight > 0 {
+        let Ok(()) = entries.push(Entry { source, weight }) else {
+            unreachable!()
+        };
+    }
+}
+
+/// Sets each number of `to` to what `from` gives to its column, rounded down.
+pub fn gather<L: Ledger>(
+    entries: &[Entry],
+    starts: &[usize],
+    from: &[u128],
+    to: &mut [u128],
+    steps: &mut Steps<L>,
+)
+    requires columns { AreWeighted (length to.old) (length from.now) starts.now entries.now }
+    requires mass { sum from.now ≤ 2 ^ 48 }
+    ensures floors { (j : ℕ) → j < length to.new → slice_index to.new j ≡ given (λ i. slice_index from.now i) (part starts.now entries.now j) / 2 ^ 48 }
+    ensures steps { steps.new ≡ steps.old + length entries.now }
+{
+    for j in 0..to.len() {
+        to[j] = gathered(&entries[starts[j]..starts[j + 1]], from, steps);
+    }
+}
+
+/// What a vector gives to one column, rounded down.
+fn gathered<L: Ledger>(column: &[Entry], from: &[u128], steps: &mut Steps<L>) -> u128
+    requires few { length column.now ≤ 4097 }
+    requires sources { All (λ e. e.source < length from.now) column.now }
+    requires weights { All (λ e. e.weight ≤ 2 ^ 48) column.now }
+    requires mass { sum from.now ≤ 2 ^ 48 }
+    ensures floor { result ≡ given (λ i. slice_index from.now i) column.now / 2 ^ 48 }
+    ensures steps { steps.new ≡ steps.old + length column.now }
+{
+    let mut sum = Dot::new();
+    for entry in column {
+        // A number is at most 2^48, so that a product is one multiplication of the machine.
+        let number = from[entry.source as usize] as u64;
+        sum.add_product(u128::from(entry.weight), u128::from(number), steps);
+    }
+    sum.down()
+}

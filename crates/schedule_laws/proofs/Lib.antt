@@ -1,0 +1,3 @@
+pub mod ShortSchedules
+pub mod ScheduleHours
+pub mod Ends

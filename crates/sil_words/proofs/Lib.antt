@@ -1,0 +1,16 @@
+pub mod Turns
+pub mod Rules
+pub mod Lexing
+pub mod Rows
+pub mod Passing
+pub mod Splits
+pub mod Walks
+pub mod Givens
+pub mod Commands
+pub mod Taking
+pub mod Contract
+pub mod Views
+pub mod Accepts
+pub mod Sound
+pub mod Answering
+pub mod OneWay

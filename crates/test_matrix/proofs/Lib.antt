@@ -1,0 +1,17 @@
+pub mod Numbers
+pub mod Rows
+pub mod Products
+pub mod Dots
+pub mod Hour
+pub mod Halves
+pub mod Lists
+pub mod Apply
+pub mod Parts
+pub mod Filled
+pub mod Leads
+pub mod Faults
+pub mod Agree
+pub mod Bounds
+pub mod Pushed
+pub mod Small
+pub mod HourTests

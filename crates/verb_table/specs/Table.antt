@@ -1,0 +1,69 @@
+-- The table of verbs: by which word each is called, what follows it, and what its options take.
+use Rattle.std.specs.Prelude.{codes, ◌≡◌, ℕ, Bool, true, false, List, [], ◌∷◌, Option, Some, find}
+use Rattle.std.specs.List.{list_any}
+use Rattle.std.specs.Str.{bytes_eq}
+use Rattle.verb_table.specs.declared.verb.Positional.{Positional}
+use Rattle.verb_table.specs.declared.verb.Positional.TheVariants.{Name, Number}
+use Rattle.verb_table.specs.declared.verb.Verb.{Verb}
+use Rattle.verb_table.specs.declared.verb.Verb.TheVariants.{Check, Size, Gen, Bench}
+
+abbrev pub Text : Type 0
+Text = List ℕ
+
+-- what an option takes
+pub data Values : Type 0 where
+  -- a flag takes nothing
+  nothing : Values
+  -- one of these texts
+  one_of : List Text → Values
+
+-- an option or a flag, which is spelled with two dashes before its name
+pub record Choice : Type 0 where
+  pub name : Text
+  pub values : Values
+  pub is_required : Bool
+
+-- a verb, the word by which it is called, and what follows: one positional word of this kind, and options and flags
+pub record Row : Type 0 where
+  pub verb : Verb
+  pub word : Text
+  pub positional : Positional
+  pub choices : List Choice
+
+-- the options and flags
+
+abbrev pub need : Choice
+need = record { name = codes "need"; values = one_of (codes "1" ∷ codes "2" ∷ codes "3" ∷ codes "4" ∷ []); is_required = false }
+
+abbrev pub mode : Choice
+mode = record { name = codes "mode"; values = one_of (codes "low" ∷ codes "high" ∷ codes "both" ∷ []); is_required = false }
+
+abbrev pub series : Choice
+series = record { name = codes "series"; values = nothing; is_required = false }
+
+-- the verbs, in the order of the usage text
+unfoldable pub verb_table : List Row
+verb_table =
+    record { verb = Check; word = codes "check"; positional = Name; choices = need ∷ mode ∷ series ∷ [] }
+    ∷ record { verb = Size; word = codes "size"; positional = Name; choices = [] }
+    ∷ record { verb = Gen; word = codes "gen"; positional = Number; choices = [] }
+    ∷ record { verb = Bench; word = codes "bench"; positional = Number; choices = need ∷ mode ∷ series ∷ [] }
+    ∷ []
+
+-- what is read from the table
+
+-- the row of the verb that is called by this word
+abbrev pub row_named : Text → Option Row
+row_named word = find (λ row. bytes_eq row.word word) verb_table
+
+-- a word calls the verb of this row
+abbrev pub IsCalled : Row → Type 0
+IsCalled row = (word : Text) × (row_named word ≡ Some row)
+
+abbrev pub is_flag : Choice → Bool
+is_flag c = elim c.values [ nothing ↦ true | one_of values ↦ false ]
+
+-- an option that takes these takes this text
+abbrev pub accepts : Values → Text → Bool
+accepts nothing value = false
+accepts (one_of values) value = list_any (λ v. bytes_eq v value) values

@@ -1,0 +1,110 @@
+//! The rows of the table.
+
+ghost use Rattle.std.specs.Prelude.{◌≡◌, map, true, false, IsTrue, ◌↔◌, MatchOption, Some, None};
+ghost use Rattle.verb_table.specs.Table.{accepts, row_named, verb_table};
+ghost use Rattle.verb_table.specs.Rows.{seen_row, seen_values};
+
+use crate::verb::{Positional, Verb};
+
+/// What an option takes.
+#[derive(Clone, Copy)]
+pub enum Values {
+    /// Nothing: it is a flag.
+    Nothing,
+    /// One of these texts.
+    OneOf(&'static [&'static str]),
+}
+
+/// An option, which takes a value, or a flag, which takes none. It is spelled with two dashes before its name.
+#[derive(Clone, Copy)]
+pub struct ChoiceRow {
+    pub name: &'static str,
+    pub values: Values,
+    pub is_required: bool,
+}
+
+/// A verb, and what follows its word.
+#[derive(Clone, Copy)]
+pub struct VerbRow {
+    pub verb: Verb,
+    pub word: &'static str,
+    pub positional: Positional,
+    pub choices: &'static [ChoiceRow],
+}
+
+const NEED: ChoiceRow = ChoiceRow {
+    name: "need",
+    values: Values::OneOf(&["1", "2", "3", "4"]),
+    is_required: false,
+};
+
+const MODE: ChoiceRow = ChoiceRow {
+    name: "mode",
+    values: Values::OneOf(&["low", "high", "both"]),
+    is_required: false,
+};
+
+const SERIES: ChoiceRow = ChoiceRow {
+    name: "series",
+    values: Values::Nothing,
+    is_required: false,
+};
+
+static ROWS: [VerbRow; 4] = [
+    VerbRow {
+        verb: Verb::Check,
+        word: "check",
+        positional: Positional::Name,
+        choices: &[NEED, MODE, SERIES],
+    },
+    VerbRow {
+        verb: Verb::Size,
+        word: "size",
+        positional: Positional::Name,
+        choices: &[],
+    },
+    VerbRow {
+        verb: Verb::Gen,
+        word: "gen",
+        positional: Positional::Number,
+        choices: &[],
+    },
+    VerbRow {
+        verb: Verb::Bench,
+        word: "bench",
+        positional: Positional::Number,
+        choices: &[NEED, MODE, SERIES],
+    },
+];
+
+/// The rows of all verbs, in the order of the usage text.
+pub fn verb_rows() -> &'static [VerbRow]
+    ensures { map seen_row result.now ≡ verb_table }
+{
+    ROWS.as_slice()
+}
+
+/// The row of the verb that is called by this word.
+pub fn row_of_word(word: &str) -> Option<&'static VerbRow>
+    ensures { MatchOption result (row_named word.now ≡ None) (λ row. row_named word.now ≡ Some (seen_row row.now)) }
+{
+    let rows = verb_rows();
+    for row in rows {
+        if row.word == word {
+            return Some(row);
+        }
+    }
+    None
+}
+
+impl Values {
+    /// Whether an option that takes these takes this text.
+    pub fn accepts(self, value: &str) -> bool
+        ensures { result ≡ accepts (seen_values self) value.now }
+    {
+        match self {
+            Values::Nothing => false,
+            Values::OneOf(values) => values.contains(&value),
+        }
+    }
+}

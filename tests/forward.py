@@ -1,0 +1,277 @@
+#!/usr/bin/env python3
+"""The report of a loop by the program's own method, written apart from the program.
+
+usage: forward.py FILE..
+
+One lumped vector is pushed forward in whole numbers, 2^48 being the whole, each rounding towards less; what the vector
+lacks at the end widens the interval. docs/MODEL.md says the method. Where a loop is above a limit the line of the
+refusal is printed. Vectors have only the states that can be reached, which does not change a digit. Standard library
+only; a loop of three subsystems takes about ten seconds.
+"""
+import sys
+from fractions import Fraction
+from math import comb, factorial
+from operator import itemgetter, mul
+
+from loop_reader import Refused, read_loop
+
+ONE = 1 << 48
+WORK, HIDDEN, DEEP, REPAIR = range(4)
+PFD_BANDS = ((10**17, "no SIL"), (10**16, "SIL 1"), (10**15, "SIL 2"), (10**14, "SIL 3"), (10**13, "SIL 4"))
+PFH_BANDS = tuple((lower // 10**4, name) for lower, name in PFD_BANDS)
+
+
+def upward(numerator, denominator):
+    return -(-numerator // denominator)
+
+
+def in_steps(fraction, step):
+    assert (fraction * step).denominator == 1
+    return int(fraction * step)
+
+
+def series_weights(order):
+    """For a beat: weights of what k ticks leave at its end, and of what they add to its mean."""
+    # The whole series of 1/k! is below its sum to 40 and this tail.
+    bound = sum(Fraction(1, factorial(k)) for k in range(41)) + Fraction(1, 40 * factorial(40))
+    ends = [int(ONE / bound)]
+    for k in range(1, order + 1):
+        ends.append(ends[-1] // k)
+    means = [sum(ends[k + 1:]) for k in range(order)]
+    missing = ONE - sum(ends[:order])
+    while not ends[-1]:
+        ends.pop()
+    return ends, means[:len(ends) - 1], missing
+
+
+class Lumped:
+    """Count vectors (for each group four counts), their events, and the loop's sizes."""
+
+    def __init__(self, loop):
+        self.loop = loop
+        self.groups = []
+        for s in loop.subsystems:
+            apart = s.test is not None and s.test.stagger > 0
+            self.groups += [(s, i, 1) for i in range(s.channels)] if apart else [(s, 0, s.channels)]
+        self.test_hours = loop.test_hours()
+        self.rate = sum(s.channels * (in_steps(s.du + s.dd, 10**12) + upward(10**12, s.repair))
+                        for s in loop.subsystems)
+        ends = self.test_hours + [loop.mission]
+        self.phases = [(end - start, self.beats_of(end - start)) for start, end in zip([0] + ends, ends)]
+        self.state_count = 1
+        for _, _, size in self.groups:
+            self.state_count *= comb(size + 3, 3)
+        self.beats = sum(beats for _, beats in self.phases)
+        self.check_limits()
+
+    def beats_of(self, hours):
+        return max(1, upward(hours * self.rate, 10**12))
+
+    def check_limits(self):
+        tests = sum(len(range(s.test.first + i * s.test.stagger, self.loop.mission, s.test.every))
+                    for s in self.loop.subsystems if s.test for i in range(s.channels))
+        work = self.beats * self.loop.order * self.state_count
+        for text, count, limit in (("{} channel tests", tests, 4096), ("{} states", self.state_count, 4096),
+                                   ("{} beats", self.beats, 10**6), ("work {}", work, 2**34)):
+            if count > limit:
+                raise Refused(f"refused: {text.format(count)}, limit {limit}")
+
+    def groups_of(self, subsystem):
+        return [g for g, (s, _, _) in enumerate(self.groups) if s is subsystem]
+
+    def is_up(self, state):
+        return all(sum(state[g][WORK] + (state[g][REPAIR] if s.tripped else 0) for g in self.groups_of(s)) >= s.needed
+                   for s in self.loop.subsystems)
+
+    def moved(self, state, groups, origin, to, every):
+        """The state with one channel of the groups moved from one place to another, or every one of them."""
+        result = list(state)
+        for g in groups:
+            counts = list(state[g])
+            n = counts[origin] if every else 1
+            counts[origin] -= n
+            counts[to] += n
+            result[g] = tuple(counts)
+        return tuple(result)
+
+    def events(self, state):
+        """Triples of a target, a rate in 10^-18 per hour, and the rate as a fraction per hour; failures come first."""
+        failures, repairs = {}, []
+        for g, (s, _, _) in enumerate(self.groups):
+            for to, rate in ((HIDDEN, (1 - s.beta) * s.coverage * s.du),
+                             (DEEP, (1 - s.beta) * (1 - s.coverage) * s.du), (REPAIR, (1 - s.beta_d) * s.dd)):
+                if rate and state[g][WORK]:
+                    target = self.moved(state, [g], WORK, to, False)
+                    failures[target] = failures.get(target, 0) + state[g][WORK] * rate
+            if state[g][REPAIR]:
+                repairs.append((self.moved(state, [g], REPAIR, WORK, False), Fraction(state[g][REPAIR], s.repair)))
+        for s in self.loop.subsystems:
+            groups = self.groups_of(s)
+            for to, rate in ((HIDDEN, s.beta * s.coverage * s.du), (DEEP, s.beta * (1 - s.coverage) * s.du),
+                             (REPAIR, s.beta_d * s.dd)):
+                if rate and any(state[g][WORK] for g in groups):
+                    target = self.moved(state, groups, WORK, to, True)
+                    failures[target] = failures.get(target, 0) + rate
+        return [(target, in_steps(rate, 10**18), rate) for target, rate in failures.items()] + \
+               [(target, 0, rate) for target, rate in repairs]
+
+    def tested(self, state, g, full):
+        """Pairs of how many channels in work fail at the test and the state that this leaves."""
+        s, (work, hidden, deep, repair) = self.groups[g][0], state[g]
+        found = hidden + (deep if full else 0)
+        for failed in range(work + 1 if s.restart_fault else 1):
+            counts = (work - failed, failed, 0 if full else deep, repair + found)
+            yield failed, state[:g] + (counts,) + state[g + 1:]
+
+
+class Mission:
+    def __init__(self, loop):
+        self.loop = loop
+        self.lumped = lumped = Lumped(loop)
+        self.ends, self.means, self.missing = series_weights(loop.order)
+        self.reach()
+        self.up = [lumped.is_up(state) for state in self.states]
+        self.entry = [sum(steps for target, steps, _ in events if not self.up[self.numbers[target]]) if up else 0
+                      for events, up in zip(self.events, self.up)]
+        self.fault_rows = {s.name: self.fault_rows_of(s) for s in loop.subsystems}
+
+    def reach(self):
+        start = tuple((size, 0, 0, 0) for _, _, size in self.lumped.groups)
+        self.states, self.numbers, self.events = [start], {start: 0}, []
+        for state in self.states:
+            events = self.lumped.events(state)
+            self.events.append(events)
+            targets = [target for target, _, _ in events]
+            for g, (s, _, _) in enumerate(self.lumped.groups):
+                for full in ((False, True) if s.test else ()):
+                    targets += [target for _, target in self.lumped.tested(state, g, full)]
+            for target in targets:
+                if target not in self.numbers:
+                    self.numbers[target] = len(self.states)
+                    self.states.append(target)
+
+    def chain(self, hours, beats):
+        """For each state the sources of one tick and their weights, as a getter and a list."""
+        columns = [([], []) for _ in self.states]
+        for number, events in enumerate(self.events):
+            taken = 0
+            for target, _, rate in events:
+                share = rate * hours / beats * ONE
+                sources, weights = columns[self.numbers[target]]
+                sources.append(number)
+                weights.append(int(share))
+                taken += upward(share.numerator, share.denominator)
+            columns[number][0].append(number)
+            columns[number][1].append(max(0, ONE - taken))
+        # A getter of one place gives no list, so a second place of weight 0 stands beside it.
+        return [(itemgetter(*sources, 0), weights + [0]) for sources, weights in columns]
+
+    def run_phase(self, vector, hours, beats):
+        chain, size = self.chain(hours, beats), len(vector)
+        dwell = [0] * size
+        ends, means = self.ends, self.means + [0]
+        for _ in range(beats):
+            end_sums, mean_sums = [0] * size, [0] * size
+            for k, (end, mean) in enumerate(zip(ends, means)):
+                if k:
+                    vector = [sum(map(mul, weights, sources(vector))) >> 48 for sources, weights in chain]
+                end_sums = [total + end * x for total, x in zip(end_sums, vector)]
+                mean_sums = [total + mean * x for total, x in zip(mean_sums, vector)]
+            vector = [total >> 48 for total in end_sums]
+            dwell = [total + (more >> 48) for total, more in zip(dwell, mean_sums)]
+        return vector, [hours * (total // beats) + hours * (total % beats) // beats for total in dwell]
+
+    def fault_rows_of(self, s):
+        """Row w has the chances that 0, 1, .. of w channels in work fail at a test, rounded down."""
+        fault = int(s.restart_fault * ONE)
+        sound = int((1 - s.restart_fault) * ONE)
+        rows = [[ONE]]
+        for _ in range(s.channels):
+            old = rows[-1]
+            rows.append([(sound * a + fault * b) >> 48 for a, b in zip(old + [0], [0] + old)])
+        return rows
+
+    def tests(self, vector, hour):
+        """The vector after the tests of an hour, and bounds of what was up before all of them and is down after."""
+        parts = [[x if up else 0 for x, up in zip(vector, self.up)], [0 if up else x for x, up in zip(vector, self.up)]]
+        for g, (s, first_channel, _) in enumerate(self.lumped.groups):
+            full = s.test_of(first_channel, hour)
+            if full is None:
+                continue
+            for p, part in enumerate(parts):
+                after = [0] * len(part)
+                for state, x in zip(self.states, part):
+                    if x:
+                        for failed, target in self.lumped.tested(state, g, full):
+                            after[self.numbers[target]] += x * self.fault_rows[s.name][state[g][WORK]][failed]
+                parts[p] = [total >> 48 for total in after]
+        passed_low = sum(x for x, up in zip(parts[0], self.up) if not up)
+        passed_high = ONE - sum(x for x, up in zip(parts[0], self.up) if up) - sum(parts[1])
+        return [a + b for a, b in zip(*parts)], passed_low, passed_high
+
+    def compute(self):
+        """The two intervals, in steps of 10^-18."""
+        loop, lumped = self.loop, self.lumped
+        vector = [ONE] + [0] * (len(self.states) - 1)
+        hours_in = [0] * len(vector)
+        passed_low = passed_high = 0
+        for number, (hours, beats) in enumerate(lumped.phases):
+            vector, more = self.run_phase(vector, hours, beats)
+            hours_in = [a + b for a, b in zip(hours_in, more)]
+            if number < len(lumped.test_hours):
+                vector, low, high = self.tests(vector, lumped.test_hours[number])
+                passed_low += low
+                passed_high += high
+        mean = [total // loop.mission for total in hours_in]
+        down = sum(x for x, up in zip(mean, self.up) if not up)
+        up = sum(x for x, up in zip(mean, self.up) if up)
+        pfd = (down * 10**18 >> 48, upward((ONE - up) * 10**18, ONE))
+        known = sum(map(mul, mean, self.entry))
+        low = (known + 10**18 * passed_low // loop.mission) >> 48
+        high = upward(known + self.failures() * (ONE - sum(mean)) + upward(10**18 * passed_high, loop.mission), ONE)
+        return pfd, (low, high)
+
+    def failures(self):
+        """The sum of the rates of all failure events, in 10^-18 per hour."""
+        return in_steps(sum(s.channels * ((1 - s.beta) * s.du + (1 - s.beta_d) * s.dd) + s.beta * s.du
+                            + s.beta_d * s.dd for s in self.loop.subsystems), 10**18)
+
+    def widest(self):
+        """How wide the two intervals may be, in steps of 10^-18, by the count of all roundings."""
+        lumped, states = self.lumped, self.lumped.state_count
+        events = 4 * len(lumped.groups) + 3 * len(self.loop.subsystems)
+        group_tests = sum(s.test_of(first, hour) is not None for hour in lumped.test_hours
+                          for s, first, _ in lumped.groups)
+        budget = lumped.beats * (2 * events + 3 * states + self.missing + self.loop.order**2) \
+            + group_tests * 2 * (states + 32) + len(lumped.phases) * states + 2 * states
+        passages = Fraction(len(lumped.test_hours) * 10**18, self.loop.mission)
+        return budget * 10**18 // ONE + 2, int(budget * (self.failures() + passages) / ONE) + 3
+
+
+def band(ends, bands):
+    names = [next((name for lower, name in bands if end >= lower), "beyond SIL 4") for end in ends]
+    return names[0] if names[0] == names[1] else "undecided"
+
+
+def decimal18(steps):
+    return f"{steps // 10**18}.{steps % 10**18:018}"
+
+
+def report(loop):
+    mission = Mission(loop)
+    lines = [f"mission {loop.mission}", f"phases {len(mission.lumped.phases)}",
+             f"states {mission.lumped.state_count}", f"beats {mission.lumped.beats}", f"order {loop.order}"]
+    pfd, pfh = mission.compute()
+    for name, ends, bands in (("pfd", pfd, PFD_BANDS), ("pfh", pfh, PFH_BANDS)):
+        lines.append(f"{name} {decimal18(ends[0])} .. {decimal18(ends[1])} {band(ends, bands)}")
+    return lines
+
+
+if __name__ == "__main__":
+    for path in sys.argv[1:]:
+        if len(sys.argv) > 2:
+            print(f"# {path}")
+        try:
+            print("\n".join(report(read_loop(path))), flush=True)
+        except Refused as refusal:
+            print(refusal, flush=True)
