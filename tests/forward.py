@@ -16,6 +16,8 @@ from operator import itemgetter, mul
 from loop_reader import Refused, read_loop
 
 ONE = 1 << 48
+# The greatest block has 2^12 beats; the numbers of a block lack at most so much for each beat, and their tails for each pair.
+LAST_RUNG, MOST_MISSING = 12, 200
 WORK, HIDDEN, DEEP, REPAIR = range(4)
 PFD_BANDS = ((10**17, "no SIL"), (10**16, "SIL 1"), (10**15, "SIL 2"), (10**14, "SIL 3"), (10**13, "SIL 4"))
 PFH_BANDS = tuple((lower // 10**4, name) for lower, name in PFD_BANDS)
@@ -42,6 +44,46 @@ def series_weights(order):
     while not ends[-1]:
         ends.pop()
     return ends, means[:len(ends) - 1], missing
+
+
+class Ladder:
+    """The numbers of 2, 4, 8, .. beats at once: of k ticks `numbers[k - low]`, each list the square of the one before it."""
+
+    def __init__(self, beats):
+        numbers, low, self.rungs = series_weights(16)[0], 0, []
+        for exponent in range(1, LAST_RUNG + 1):
+            if beats < 1 << exponent:
+                break
+            numbers, low = self.squared(numbers), 2 * low
+            first = next(k for k, x in enumerate(numbers) if x)
+            numbers, low = numbers[first:], low + first
+            if not self.is_close(1 << exponent, low, numbers):
+                break
+            self.rungs.append((1 << exponent, low, numbers))
+
+    @staticmethod
+    def squared(numbers):
+        square = [0] * (2 * len(numbers) - 1)
+        for i, x in enumerate(numbers):
+            for j, y in enumerate(numbers):
+                square[i + j] += x * y
+        square = [x >> 48 for x in square]
+        while not square[-1]:
+            square.pop()
+        return square
+
+    @staticmethod
+    def is_close(beats, low, numbers):
+        dwell = sum((low + k) * x for k, x in enumerate(numbers))
+        return ONE - sum(numbers) <= MOST_MISSING * beats and beats * ONE - dwell <= MOST_MISSING * beats * beats
+
+    def blocks_of(self, beats):
+        """The blocks of a phase of so many beats, the greatest first, and how many beats are left for themselves."""
+        blocks = []
+        for rung in reversed(self.rungs):
+            blocks += [rung] * (beats // rung[0])
+            beats %= rung[0]
+        return blocks, beats
 
 
 class Lumped:
@@ -129,6 +171,7 @@ class Mission:
         self.loop = loop
         self.lumped = lumped = Lumped(loop)
         self.ends, self.means, self.missing = series_weights(loop.order)
+        self.ladder = Ladder(max(beats for _, beats in lumped.phases))
         self.reach()
         self.up = [lumped.is_up(state) for state in self.states]
         self.entry = [sum(steps for target, steps, _ in events if not self.up[self.numbers[target]]) if up else 0
@@ -167,19 +210,28 @@ class Mission:
         return [(itemgetter(*sources, 0), weights + [0]) for sources, weights in columns]
 
     def run_phase(self, vector, hours, beats):
-        chain, size = self.chain(hours, beats), len(vector)
-        dwell = [0] * size
-        ends, means = self.ends, self.means + [0]
-        for _ in range(beats):
-            end_sums, mean_sums = [0] * size, [0] * size
-            for k, (end, mean) in enumerate(zip(ends, means)):
-                if k:
-                    vector = [sum(map(mul, weights, sources(vector))) >> 48 for sources, weights in chain]
-                end_sums = [total + end * x for total, x in zip(end_sums, vector)]
-                mean_sums = [total + mean * x for total, x in zip(mean_sums, vector)]
-            vector = [total >> 48 for total in end_sums]
-            dwell = [total + (more >> 48) for total, more in zip(dwell, mean_sums)]
+        chain, dwell = self.chain(hours, beats), [0] * len(vector)
+        blocks, left = self.ladder.blocks_of(beats)
+        beat = (1, 0, self.ends)
+        for _, low, numbers in blocks + [beat] * left:
+            tails = self.means if numbers is self.ends else [sum(numbers[k + 1:]) for k in range(len(numbers) - 1)]
+            vector, more = self.pass_block(chain, vector, low, numbers, tails)
+            dwell = [total + x for total, x in zip(dwell, more)]
         return vector, [hours * (total // beats) + hours * (total % beats) // beats for total in dwell]
+
+    def pass_block(self, chain, vector, low, numbers, tails):
+        """The vector at the end of some beats, and what it dwells in them."""
+        tick = lambda v: [sum(map(mul, weights, sources(v))) >> 48 for sources, weights in chain]
+        flat, end_sums, mean_sums = sum(numbers), [0] * len(vector), [0] * len(vector)
+        for _ in range(low):
+            mean_sums = [total + flat * x for total, x in zip(mean_sums, vector)]
+            vector = tick(vector)
+        for k, (end, mean) in enumerate(zip(numbers, tails + [0])):
+            if k:
+                vector = tick(vector)
+            end_sums = [total + end * x for total, x in zip(end_sums, vector)]
+            mean_sums = [total + mean * x for total, x in zip(mean_sums, vector)]
+        return [total >> 48 for total in end_sums], [total >> 48 for total in mean_sums]
 
     def fault_rows_of(self, s):
         """Row w has the chances that 0, 1, .. of w channels in work fail at a test, rounded down."""

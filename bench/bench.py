@@ -1,0 +1,105 @@
+#!/usr/bin/env python3
+"""Times `check` on a handful of loops, and says how many products and ticks the method makes of each.
+
+usage: bench/bench.py PROGRAM [RUNS]        for example: bench/bench.py ./sil 5
+
+Time and peak memory are those of the whole program, from start to end, the best of so many runs (5, if not said). Products
+and ticks are counted here, apart from the program, by the method that docs/MODEL.md describes: of each phase the binary
+digits of its beats, of each block of beats the ticks of its rung, of each tick the ways that have a rate between count
+vectors that are reached. No figure is a test. Standard library only.
+"""
+import os
+import subprocess
+import sys
+import tempfile
+import time
+from math import comb
+from pathlib import Path
+
+TOP = Path(__file__).resolve().parent.parent
+sys.path.insert(0, str(TOP / "tests"))
+from forward import Ladder, Lumped, series_weights  # noqa: E402
+from loop_reader import read_loop  # noqa: E402
+
+LARGEST_WORK = """version = 1
+mission = 3100
+order = 16
+[[subsystem]]
+name = "a"
+vote = "1oo8"
+du = "1.0E-6"
+dd = "1.0E-6"
+coverage = "0.5"
+repair = 4
+[[subsystem]]
+name = "b"
+vote = "1oo3"
+du = "1.0E-6"
+dd = "1.0E-6"
+coverage = "0.5"
+repair = 4
+"""
+
+
+def reached(lumped):
+    """How many count vectors are reached, and how many ways with a rate lead between them, each to itself too."""
+    start = tuple((size, 0, 0, 0) for _, _, size in lumped.groups)
+    seen, left, ways = {start}, [start], 0
+    while left:
+        state = left.pop()
+        targets = {target for target, _, _ in lumped.events(state)}
+        for g, (subsystem, _, _) in enumerate(lumped.groups):
+            if subsystem.test is not None:
+                targets |= {after for _, after in lumped.tested(state, g, True)}
+                targets |= {after for _, after in lumped.tested(state, g, False)}
+        ways += 1 + len({target for target, _, _ in lumped.events(state)})
+        for target in targets - seen:
+            seen.add(target)
+            left.append(target)
+    return len(seen), ways
+
+
+def counted(path):
+    lumped = Lumped(read_loop(path))
+    ladder = Ladder(max(beats for _, beats in lumped.phases))
+    beat = (1, 0, series_weights(lumped.loop.order)[0])
+    size, ways = reached(lumped)
+    ticks = products = 0
+    for _, beats in lumped.phases:
+        blocks, left = ladder.blocks_of(beats)
+        for _, low, numbers in blocks + [beat] * left:
+            made = low + len(numbers) - 1
+            ticks += made
+            products += made * ways + 2 * len(numbers) * size
+    return lumped, size, ticks, products
+
+
+def timed(program, path):
+    start = time.perf_counter()
+    with open(os.devnull, "wb") as nowhere:
+        child = subprocess.Popen([program, "check", path], stdout=nowhere)
+        _, status, usage = os.wait4(child.pid, 0)
+        child.returncode = os.waitstatus_to_exitcode(status)
+    assert child.returncode == 0, path
+    return time.perf_counter() - start, usage.ru_maxrss
+
+
+def main():
+    program = sys.argv[1]
+    runs = int(sys.argv[2]) if len(sys.argv) > 2 else 5
+    with tempfile.TemporaryDirectory() as folder:
+        largest = Path(folder) / "largest-work.toml"
+        largest.write_text(LARGEST_WORK)
+        paths = [TOP / "examples/one-channel.toml", TOP / "examples/three-subsystems.toml",
+                 TOP / "tests/larger/generated-7.toml", TOP / "tests/larger/eleven-channels.toml",
+                 TOP / "tests/loops/hourly-tests.toml", largest]
+        print(f"{'loop':22} {'states':>6} {'reached':>7} {'beats':>7} {'ticks':>8} {'products':>12} "
+              f"{'ms':>9} {'ns/product':>10} {'kB':>6}")
+        for path in paths:
+            lumped, size, ticks, products = counted(path)
+            best = min(timed(program, str(path)) for _ in range(runs))
+            print(f"{path.stem:22} {lumped.state_count:6} {size:7} {lumped.beats:7} {ticks:8} {products:12} "
+                  f"{best[0] * 1e3:9.2f} {best[0] * 1e9 / products:10.2f} {best[1]:6}")
+
+
+main()
