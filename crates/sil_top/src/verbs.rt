@@ -20,11 +20,7 @@ use sil_words::{Ask, Verb, WordFault, read_words};
 use std::alloc::{AllocError, Global};
 
 /// What the words call for.
-pub fn answer_to<S: Shelf>(
-    alloc: Global,
-    words: &[String],
-    shelf: &mut S,
-) -> Result<Answer, Fault>
+pub fn answer_to<S: Shelf>(alloc: Global, words: &[String], shelf: &mut S) -> Result<Answer, Fault>
     ensures answer { IfOk result (λ x. CallsFor S.tells (S.file shelf.old) (S.handed shelf.new) (map string_bytes words.now) (outcome_of x)) }
     ensures cause { IfErr result (HasCause S.tells (S.file shelf.old) (S.handed shelf.new) (map string_bytes words.now) (S.handed shelf.old) (S.faults shelf.old) (S.faults shelf.new)) }
     ensures untouched { (IsFileAsked (map string_bytes words.now) → ⊥) → shelf.new ≡ shelf.old }
@@ -85,10 +81,10 @@ fn sizes_of(alloc: Global, l: &Loop) -> Result<Answer, AllocError>
 fn draw(alloc: Global, ask: &Ask) -> Result<Answer, AllocError>
     ensures { IfOk result (λ x. IsPrinted (drawn_of ask.now.number) (outcome_of x)) }
 {
-    let l = make_loop(alloc, ask.number)?;
+    let drawn = make_loop(alloc, ask.number)?;
     Ok(Answer {
         status: Status::Done,
-        text: print_loop(alloc, &l)?,
+        text: print_loop(alloc, &drawn)?,
     })
 }
 

@@ -15,7 +15,10 @@ fn drawn_file_has_its_sizes(rt: HostRuntime) -> Result<(), Fail> {
     assert_eq!(rt; status, Status::Done);
     let (status, sizes) = ran(alloc, "size loop.toml", file.as_bytes())?;
     assert_eq!(rt; status, Status::Done);
-    assert!(rt; sizes.as_str().starts_with("mission 43800\nphases 5\n"), "{sizes}");
+    assert!(rt;
+        sizes.as_str().starts_with("mission 43800\nphases 5\n"),
+        "{sizes}"
+    );
     Ok(())
 }
 
@@ -29,7 +32,13 @@ fn drawn_report(rt: HostRuntime) -> Result<(), Fail> {
     let text = text.as_str();
     assert_eq!(rt; status, Status::NotShown);
     assert!(rt; text.starts_with("mission 43800\nphases 5\n"), "{text}");
-    assert!(rt; holds(between(text, "pfd ", "\n")?, "17995757341979306", "SIL 1")?, "{text}");
-    assert!(rt; holds(between(text, "pfh ", "\n")?, "13442239249746", "no SIL")?, "{text}");
+    assert!(rt;
+        holds(between(text, "pfd ", "\n")?, "17995757341979306", "SIL 1")?,
+        "{text}"
+    );
+    assert!(rt;
+        holds(between(text, "pfh ", "\n")?, "13442239249746", "no SIL")?,
+        "{text}"
+    );
     Ok(())
 }

@@ -30,7 +30,11 @@ fn sink_that_fails(rt: HostRuntime) -> Result<(), Fail> {
         ("gen seven", "usage: sil"),
     ] {
         let (status, text) = ran_over(alloc, line, &mut shelf, 10)?;
-        assert_eq!(rt; (status, text.as_str()), (Status::WriteFault, part), "{line}");
+        assert_eq!(rt;
+            (status, text.as_str()),
+            (Status::WriteFault, part),
+            "{line}"
+        );
     }
     Ok(())
 }

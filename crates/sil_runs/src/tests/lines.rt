@@ -1,7 +1,7 @@
 //! Whole command lines, with the status and the text that each has to give.
 
-use super::{lines_of, ran_over, ROOM};
 use super::files::shelf_of_files;
+use super::{ROOM, lines_of, ran_over};
 use std::test::Fail;
 
 /// Lines of words, and after the arrow the exit status and how the text begins. `;` stands for a line feed.
@@ -79,7 +79,10 @@ fn command_lines(rt: HostRuntime) -> Result<(), Fail> {
         let (status, text) = ran_over(alloc, line, &mut shelf, ROOM)?;
         let number_told = format!(in alloc; "{}", status as u8)?;
         assert_eq!(rt; number_told.as_str(), number, "{line}");
-        assert!(rt; text.as_str().starts_with(lines_of(alloc, start)?.as_str()), "{line}: {text}");
+        assert!(rt;
+            text.as_str().starts_with(lines_of(alloc, start)?.as_str()),
+            "{line}: {text}"
+        );
         assert_eq!(rt; text.as_str().is_empty(), start.is_empty(), "{line}");
     }
     Ok(())
@@ -102,7 +105,11 @@ fn whole_reports(rt: HostRuntime) -> Result<(), Fail> {
     let mut shelf = shelf_of_files(alloc)?;
     let (_, report) = ran_over(alloc, "check three", &mut shelf, ROOM)?;
     assert_eq!(rt; report.as_str().lines().count(), 7);
-    for line in ["check three --need 3 --mode both", "check three --series", "check --need 4 three"] {
+    for line in [
+        "check three --need 3 --mode both",
+        "check three --series",
+        "check --need 4 three",
+    ] {
         let (_, text) = ran_over(alloc, line, &mut shelf, ROOM)?;
         assert_eq!(rt; text.as_str(), report.as_str(), "{line}");
     }

@@ -49,7 +49,10 @@ fn refused_files(rt: HostRuntime) -> Result<(), Fail> {
         let line = format!(in alloc; "refused: {fault}\n")?;
         for words in ["check loop.toml --need 4", "size loop.toml"] {
             let (status, text) = ran(alloc, words, file.as_bytes())?;
-            assert_eq!(rt; (status, text.as_str()), (Status::FileRefused, line.as_str()));
+            assert_eq!(rt;
+                (status, text.as_str()),
+                (Status::FileRefused, line.as_str())
+            );
         }
     }
     Ok(())
@@ -65,7 +68,10 @@ fn truncated_files(rt: HostRuntime) -> Result<(), Fail> {
     for (key, line) in missing.split('|').zip(ONE_CHANNEL.lines()) {
         let (status, text) = ran(alloc, "check loop.toml", file.as_bytes())?;
         let told = format!(in alloc; "refused: missing {key}\n")?;
-        assert_eq!(rt; (status, text.as_str()), (Status::FileRefused, told.as_str()));
+        assert_eq!(rt;
+            (status, text.as_str()),
+            (Status::FileRefused, told.as_str())
+        );
         file.push_str(line)?;
         file.push('\n')?;
     }
@@ -82,7 +88,10 @@ fn byte_of_no_text(rt: HostRuntime) -> Result<(), Fail> {
     file.extend_from_slice(ONE_CHANNEL.as_bytes())?;
     file.extend_from_slice(b"# \xff\n")?;
     let (status, text) = ran(alloc, "check loop.toml", &file)?;
-    assert_eq!(rt; (status, text.as_str()), (Status::FileRefused, "refused: not TOML\n"));
+    assert_eq!(rt;
+        (status, text.as_str()),
+        (Status::FileRefused, "refused: not TOML\n")
+    );
     Ok(())
 }
 

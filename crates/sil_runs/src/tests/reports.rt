@@ -96,9 +96,18 @@ fn reports_hold_the_figures(rt: HostRuntime) -> Result<(), Fail> {
         let (status, text) = ran(alloc, "check loop.toml", whole.as_bytes())?;
         let text = text.as_str();
         assert_eq!(rt; status, Status::Done, "{text}");
-        assert!(rt; text.starts_with(lines_of(alloc, counts)?.as_str()), "{text}");
-        assert!(rt; holds(between(text, "pfd ", "\n")?, pfd, pfd_band)?, "{text}");
-        assert!(rt; holds(between(text, "pfh ", "\n")?, pfh, pfh_band)?, "{text}");
+        assert!(rt;
+            text.starts_with(lines_of(alloc, counts)?.as_str()),
+            "{text}"
+        );
+        assert!(rt;
+            holds(between(text, "pfd ", "\n")?, pfd, pfd_band)?,
+            "{text}"
+        );
+        assert!(rt;
+            holds(between(text, "pfh ", "\n")?, pfh, pfh_band)?,
+            "{text}"
+        );
         assert_eq!(rt; text.lines().count(), 7);
     }
     Ok(())
