@@ -30,10 +30,10 @@ use denote.Triple.Table.{entered}
 use denote.Triple.Walked.{says, Stays, stay_ref, stay_none_slice, walk_of, AllGo, Goes-ref, Goes-none_slice, Walks, ends_at, walked, walk_Meets}
 use Rattle.sil_io.specs.declared.log.Log.{Log}
 use Rattle.sil_io.specs.contracts.log.Log as T
-use Rattle.sil_io.specs.contracts.log.Log.append.Key.{name as #it}
-use Rattle.sil_io.specs.contracts.log.Log.append as it
-use Rattle.sil_io.proofs.log.Log.append.Statement as stated
-use Rattle.sil_io.proofs.log.Log.append.Code as code
+use Rattle.sil_io.specs.contracts.log.Log.push.Key.{name as #it}
+use Rattle.sil_io.specs.contracts.log.Log.push as it
+use Rattle.sil_io.proofs.log.Log.push.Statement as stated
+use Rattle.sil_io.proofs.log.Log.push.Code as code
 
 abbrev Arg : Type 0
 Arg = MutBor Log × (Bor (List ℕ) × Unit {0})
@@ -48,7 +48,7 @@ module _ {M : Type 1} {𝓤 : Ura M} (𝓛 : Logic 𝓤) (at_mem : Memory → SP
   x = (record { ref_ptr = (b, o); ghost_name = γ; now = h }, (s, tt))
 
   abbrev h' : Log
-  h' = record { value = h.value ++ s.now }
+  h' = record { value = h.value ++ s.now ∷ [] }
 
   abbrev at : List Val × (List Val × Unit {0})
   at = (vptr b o ∷ [], (slice_val s.ref_ptr (length s.now) ∷ [], tt))
@@ -93,9 +93,9 @@ meets : {M : Type 1} {𝓤 : Ura M} (𝓛 : Logic 𝓤) → (at_mem : Memory →
     → Meets 𝓛 it.signature (WpFn 𝓤 𝓛.H 𝓣.C 𝓣.Λ code.function) (it.spec 𝓛 at_mem run)
 meets {𝓤 = 𝓤} 𝓛 at_mem run 𝓣 = walk_Meets 𝓛 it.ended stayed (goes 𝓛 at_mem run) (it.clauses 𝓛 at_mem run) (WpFn 𝓤 𝓛.H 𝓣.C 𝓣.Λ code.function) (WpFn-mono 𝓤 𝓛.H 𝓛.laws 𝓣 code.function) (walks 𝓛 at_mem run 𝓣.C 𝓣.Λ)
 
-pub append_spec : {M : Type 1} → stated.statement M
+pub push_spec : {M : Type 1} → stated.statement M
 unfolding tables_of
-append_spec 𝓤 𝓛 𝓜 𝓡 wired =
+push_spec 𝓤 𝓛 𝓜 𝓡 wired =
     entered 𝓤 𝓛.H (triple_of 𝓛 it.signature (it.spec 𝓛 𝓜.mem 𝓡.returns))
     (tables 𝓤 𝓛.H 𝓜 𝓡 𝓡.env).C (tables 𝓤 𝓛.H 𝓜 𝓡 𝓡.env).Λ #it code.function (code.unfolded 𝓤 𝓛.H 𝓜 𝓡 wired)
     (meets 𝓛 𝓜.mem 𝓡.returns (tables_of 𝓤 𝓛.H 𝓜 (tables 𝓤 𝓛.H 𝓜 𝓡 𝓡.env)))
