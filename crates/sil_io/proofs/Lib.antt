@@ -1,3 +1,4 @@
 pub mod Buffers
 pub mod Files
 pub mod HandedBytes
+pub mod Logs

@@ -1,21 +1,34 @@
--- Files and the standard output, as contracts see them: no clause can say which bytes they hold, but only which were read
--- and written.
-use Rattle.std.specs.Prelude.{ℕ, Bool, List, Some, None, if◌then◌else◌}
+-- Files and the standard output, as contracts see them: which bytes they hold only those can tell that tell it, but which
+-- were read and written is known of all.
+use Rattle.std.specs.Prelude.{ℕ, Bool, List, Option, None, if◌then◌else◌}
+use Rattle.std.specs.List.{concat, last_or}
 use Rattle.sil_io.specs.Handed.{Handed}
 
 -- a shelf of real files
 pub record FilesState : Type 0 where
   -- whether a file is picked
   pub picked : Bool
+  -- the bytes that reads of the open file will give, where it tells them
+  pub remaining : Option (List ℕ)
   pub handed : Handed
+  -- the names that were asked for, in order
+  pub tried : List (List ℕ)
+  -- whether the last pick failed, or a read after it did
+  pub failed : Bool
   pub faults : ℕ
 
--- what was handed out, by whether a file is picked
-abbrev pub handed_by : Bool → List ℕ → List ℕ → Handed
-handed_by picked name bytes = record { name = if picked then Some name else None; bytes = bytes }
+-- what was handed out: by whether a file is picked, by the names that were asked for, and by the pieces that were read
+abbrev pub handed_by : Bool → List (List ℕ) → List (List ℕ) → Handed
+handed_by picked tried pieces = record { name = if picked then last_or None tried else None; bytes = concat pieces }
 
 -- the standard output
 pub record OutState : Type 0 where
   -- the bytes that a write answered to have taken
   pub taken : List ℕ
+  -- the pieces that were offered, in order
+  pub offered : List (List ℕ)
+  -- whether the last call was a write that took nothing of a piece that is not empty
+  pub stalled : Bool
+  -- whether the last call was a write that failed, or noted a stall
+  pub failed : Bool
   pub faults : ℕ

@@ -1,13 +1,13 @@
 //! Bytes that only proofs read.
-ghost use Rattle.std.specs.Prelude.{◌≡◌, ℕ, List, [], ◌++◌};
+ghost use Rattle.std.specs.Prelude.{◌≡◌, ℕ, List, [], ◌∷◌, ◌++◌};
 ghost use Rattle.std.specs.Borrow.{ftrue};
 
 use std::marker::Model;
 
-/// A list of bytes, for proofs alone. It has no bytes at run time, and its methods do nothing there.
+/// A list of pieces of bytes, for proofs alone. It has no bytes at run time, and its methods do nothing there.
 #[derive(Drop)]
 pub struct Log {
-    pub ghost value: { List ℕ },
+    pub ghost value: { List (List ℕ) },
 }
 
 impl Model for Log {
@@ -22,8 +22,8 @@ impl Log {
         Log {}
     }
 
-    /// Puts the bytes at the end.
-    pub fn append(&mut self, _bytes: &[u8])
-        ensures { self.new.value ≡ self.old.value ++ _bytes.now }
+    /// Puts a piece at the end.
+    pub fn push(&mut self, _piece: &[u8])
+        ensures { self.new.value ≡ self.old.value ++ _piece.now ∷ [] }
     {}
 }

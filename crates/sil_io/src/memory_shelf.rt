@@ -1,10 +1,11 @@
 //! A shelf in memory, which tells its bytes.
-ghost use Rattle.std.specs.Prelude.{◌≡◌, ◌≢◌, ℕ, ◌+◌, ◌≤◌, ◌<◌, ◌++◌, ◌↔◌, List, [], Some, None, true, false, length, take, drop, min, is_ok, IsOk, IsSome, IfOk, OnOk, OnErr};
+ghost use Rattle.std.specs.Prelude.{◌≡◌, ◌≢◌, ℕ, ◌+◌, ◌≤◌, ◌<◌, ◌++◌, ◌↔◌, List, [], ◌∷◌, Some, None, true, false, length, take, drop, min, is_ok, is_err, IsTrue, IsOk, IsErr, IsSome, IfOk, OnOk, OnErr};
 ghost use Rattle.std.specs.List.{position};
 ghost use Rattle.sil_io.specs.Faults.{CountsFault, counted};
 ghost use Rattle.sil_io.specs.Handed.{nothing_handed, just_picked, handed_more};
-ghost use Rattle.sil_io.specs.ShelfState.{ShelfState, bytes_under, has_name};
+ghost use Rattle.sil_io.specs.ShelfState.{ShelfState, bytes_under, has_name, no_plan, after_read, IsDue, IsCalm};
 
+use crate::log::Log;
 use crate::reading::Shelf;
 use crate::writing::Failed;
 use std::alloc::{AllocError, Global};
@@ -33,12 +34,39 @@ struct Reading {
     read: usize,
 }
 
+// The faults that are planned, and how many reads there were. Reads after the last number are not counted.
+#[derive(Clone, Copy)]
+struct Plan {
+    picks_fail: bool,
+    reads: u32,
+    fail_at: Option<u32>,
+}
+
+impl Plan {
+    // Counts a read, and answers whether it is to fail.
+    fn next_read_fails(&mut self) -> bool
+        ensures due { IsTrue result ↔ IsDue self.old }
+        ensures counted { self.new ≡ after_read self.old }
+        ensures calm_stays { IsCalm self.old → IsCalm self.new }
+        ensures calm_reads { IsCalm self.old → result ≡ false }
+    {
+        let Some(number) = self.reads.checked_add(1) else {
+            return false;
+        };
+        self.reads = number;
+        self.fail_at == Some(number)
+    }
+}
+
 /// A shelf whose files are kept in memory.
 #[derive(Drop)]
 pub struct MemShelf {
     alloc: Global,
     files: Vec<StoredFile>,
     reading: Option<Reading>,
+    tried: Log,
+    plan: Plan,
+    failed: bool,
     faults: u64,
 }
 
@@ -49,20 +77,27 @@ impl Model for MemShelf {
 
     ghost Value = { ShelfState };
 
-    ghost view = { λ s. record { files = s.files.items; picked = is_some s.reading; left = left_of s.files.items s.reading; handed = handed_of s.files.items s.reading; faults = s.faults } };
+    ghost view = { λ s. record { files = s.files.items; picked = is_some s.reading; left = left_of s.files.items s.reading; handed = handed_of s.files.items s.reading; tried = s.tried.value; plan = s.plan; failed = s.failed; faults = s.faults } };
 
     ghost invariant = { λ s. IsReading s.files.items s.reading };
 }
 
 impl MemShelf {
-    /// A shelf without files.
+    /// A shelf without files, of which no fault is planned.
     pub fn new(alloc: Global) -> MemShelf
-        ensures { result ≡ record { files = []; picked = false; left = []; handed = nothing_handed; faults = 0 } }
+        ensures { result ≡ record { files = []; picked = false; left = []; handed = nothing_handed; tried = []; plan = no_plan; failed = false; faults = 0 } }
     {
         MemShelf {
             alloc,
             files: Vec::new(alloc),
             reading: None,
+            tried: Log::new(),
+            plan: Plan {
+                picks_fail: false,
+                reads: 0,
+                fail_at: None,
+            },
+            failed: false,
             faults: 0,
         }
     }
@@ -75,6 +110,9 @@ impl MemShelf {
         ensures none_picked { OnOk result (self.new.picked ≡ false) }
         ensures none_left { OnOk result (self.new.left ≡ []) }
         ensures none_handed { OnOk result (self.new.handed ≡ nothing_handed) }
+        ensures tried_stay { self.new.tried ≡ self.old.tried }
+        ensures plan_stays { self.new.plan ≡ self.old.plan }
+        ensures failed_stays { self.new.failed ≡ self.old.failed }
         ensures faults_stay { self.new.faults ≡ self.old.faults }
         ensures refused { OnErr result (self.new ≡ self.old) }
     {
@@ -85,6 +123,33 @@ impl MemShelf {
         store(&mut self.files, file)?;
         self.reading = None;
         Ok(())
+    }
+
+    /// From now on each pick fails.
+    pub fn fail_pick(&mut self)
+        ensures { self.new ≡ record self.old { plan = record self.old.plan { picks_fail = true } } }
+    {
+        self.plan.picks_fail = true;
+    }
+
+    /// From now on the read with this number fails. Reads are numbered from 1 on, over the life of the shelf, and a read
+    /// after number 2^32 - 1 has none. This takes the place of an earlier number.
+    pub fn fail_read_at(&mut self, call: u32)
+        ensures { self.new ≡ record self.old { plan = record self.old.plan { fail_at = Some call } } }
+    {
+        self.plan.fail_at = Some(call);
+    }
+
+    // Counts a failed pick, after which no file is picked.
+    fn refuse_pick(&mut self) -> Result<(), Failed>
+        ensures fails { IsErr result }
+        ensures one_fault { self.new ≡ record self.old { picked = false; left = []; handed = nothing_handed; failed = true; faults = counted self.old.faults } }
+        ensures faults_never_fall { self.old.faults ≤ self.new.faults }
+    {
+        self.reading = None;
+        self.failed = true;
+        self.faults = self.faults.saturating_add(1);
+        Err(Failed)
     }
 }
 
@@ -129,37 +194,51 @@ impl Shelf for MemShelf {
 
     ghost handed = { λ s. s.handed };
 
+    ghost tried = { λ s. s.tried };
+
+    ghost failed = { λ s. s.failed };
+
     ghost faults = { λ s. s.faults };
 
-    /// Fails for a name that the shelf does not hold, and for no other.
+    ghost calm = { λ s. IsCalm s.plan };
+
+    /// Fails for a name that the shelf does not hold, and where picks are to fail, and nowhere else.
     fn pick(&mut self, name: &str) -> Result<(), Failed>
-        ensures found { IsOk result ↔ IsSome (bytes_under self.old.files name.now) }
+        ensures found { IsOk result ↔ ((self.old.plan.picks_fail ≡ false) × IsSome (bytes_under self.old.files name.now)) }
         ensures files_stay { self.new.files ≡ self.old.files }
         ensures picked { self.new.picked ≡ is_ok result }
         ensures whole { OnOk result (bytes_under self.old.files name.now ≡ Some self.new.left) }
         ensures nothing_left { OnErr result (self.new.left ≡ []) }
         ensures anew { OnOk result (self.new.handed ≡ just_picked name.now) }
         ensures no_file { OnErr result (self.new.handed ≡ nothing_handed) }
+        ensures tried { self.new.tried ≡ self.old.tried ++ name.now ∷ [] }
+        ensures plan_stays { self.new.plan ≡ self.old.plan }
+        ensures noted { self.new.failed ≡ is_err result }
         ensures faults_never_fall { self.old.faults ≤ self.new.faults }
         ensures no_fault { OnOk result (self.new.faults ≡ self.old.faults) }
         ensures counted { OnErr result (self.new.faults ≡ counted self.old.faults) }
     {
+        self.tried.push(name.as_bytes());
+        if self.plan.picks_fail {
+            return self.refuse_pick();
+        }
         match place_of(&self.files, name) {
             Some(place) => {
                 self.reading = Some(Reading { place, read: 0 });
+                self.failed = false;
                 Ok(())
             }
-            None => {
-                self.reading = None;
-                self.faults = self.faults.saturating_add(1);
-                Err(Failed)
-            }
+            None => self.refuse_pick(),
         }
     }
 
-    /// Never fails, and gives as many bytes as the buffer and the rest of the file allow.
+    /// Fails at the planned number, and nowhere else. Otherwise it gives as many bytes as the buffer and the rest of the
+    /// file allow.
     fn read(&mut self, buf: &mut [u8]) -> Result<usize, Failed>
-        ensures never_fails { IsOk result }
+        ensures fails { IsErr result ↔ IsDue self.old.plan }
+        ensures numbered { self.new.plan ≡ after_read self.old.plan }
+        ensures calm_stays { IsCalm self.old.plan → IsCalm self.new.plan }
+        ensures calm_reads { IsCalm self.old.plan → IsOk result }
         ensures count { IfOk result (λ n. n ≡ min (length buf.old) (length self.old.left)) }
         ensures buffer { IfOk result (λ n. buf.new ≡ take n self.old.left ++ drop n buf.old) }
         ensures left { IfOk result (λ n. self.new.left ≡ drop n self.old.left) }
@@ -167,8 +246,17 @@ impl Shelf for MemShelf {
         ensures files_stay { self.new.files ≡ self.old.files }
         ensures picked_stays { self.new.picked ≡ self.old.picked }
         ensures nothing_to_read { self.old.picked ≡ false → self.old.left ≡ [] }
-        ensures no_fault { self.new.faults ≡ self.old.faults }
+        ensures tried_stay { self.new.tried ≡ self.old.tried }
+        ensures failed_stays { OnOk result (self.new.failed ≡ self.old.failed) }
+        ensures no_fault { OnOk result (self.new.faults ≡ self.old.faults) }
+        ensures one_fault { OnErr result (self.new ≡ record self.old { plan = after_read self.old.plan; failed = true; faults = counted self.old.faults }) }
+        ensures faults_never_fall { self.old.faults ≤ self.new.faults }
     {
+        if self.plan.next_read_fails() {
+            self.failed = true;
+            self.faults = self.faults.saturating_add(1);
+            return Err(Failed);
+        }
         let Some(reading) = self.reading else {
             return Ok(0);
         };

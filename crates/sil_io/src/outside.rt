@@ -1,8 +1,14 @@
-//! Real files and the standard output. No clause can tell which bytes they hold; what was read and what was written is
-//! kept for proofs alone.
-ghost use Rattle.std.specs.Prelude.{◌≡◌, ◌≤◌, ◌<◌, ◌++◌, [], Some, None, true, false, length, take, is_ok, IfOk, OnOk, OnErr};
+//! Real files and the standard output. Which bytes they hold no clause can tell; what was asked of them, what was read and
+//! what was written is kept for proofs alone.
+//!
+//! The clauses hold of every runtime. So where a runtime's files tell what their reads will give, as files in memory may,
+//! `read` hands out just that; and where a writer tells what it holds, a write appends just what it answers. Two things no
+//! clause of the library can tie, and they are read here by eye: [`fs::open`] opens the file of the name that it is given,
+//! and [`io::writer`] writes to the standard output.
+ghost use Rattle.std.specs.Prelude.{◌≡◌, ℕ, ◌≤◌, ◌<◌, ◌++◌, ◌∷◌, [], None, true, false, length, take, is_ok, is_err, IfOk, OnOk, OnErr};
+ghost use Rattle.std.specs.Io.KnownBytes.{Appends, Consumes, Keeps, IsAtEnd};
 ghost use Rattle.sil_io.specs.Faults.{CountsFault, counted};
-ghost use Rattle.sil_io.specs.Handed.{nothing_handed};
+ghost use Rattle.sil_io.specs.Handed.{nothing_handed, handed_more};
 ghost use Rattle.sil_io.specs.Outside.{FilesState, OutState};
 
 use crate::log::Log;
@@ -17,18 +23,19 @@ use std::{fs, io};
 pub struct FileShelf<'a, R: Files> {
     rt: &'a R,
     file: Option<R::File>,
-    name: Log,
-    bytes: Log,
+    tried: Log,
+    pieces: Log,
+    failed: bool,
     faults: u64,
 }
 
 impl<'a, R: Files> Model for FileShelf<'a, R> {
-    ghost use Rattle.std.specs.Prelude.{is_some};
+    ghost use Rattle.std.specs.Prelude.{is_some, option_and_then};
     ghost use Rattle.sil_io.specs.Outside.{FilesState, handed_by};
 
     ghost Value = { FilesState };
 
-    ghost view = { λ s. record { picked = is_some s.file; handed = handed_by (is_some s.file) s.name.value s.bytes.value; faults = s.faults } };
+    ghost view = { λ s. record { picked = is_some s.file; remaining = option_and_then R.File.remaining s.file; handed = handed_by (is_some s.file) s.tried.value s.pieces.value; tried = s.tried.value; failed = s.failed; faults = s.faults } };
 }
 
 impl<R: Files> Drop for FileShelf<'_, R> {
@@ -36,8 +43,9 @@ impl<R: Files> Drop for FileShelf<'_, R> {
         let FileShelf {
             rt: _,
             file: _,
-            name: _,
-            bytes: _,
+            tried: _,
+            pieces: _,
+            failed: _,
             faults: _,
         } = self;
     }
@@ -46,14 +54,48 @@ impl<R: Files> Drop for FileShelf<'_, R> {
 impl<'a, R: Files> FileShelf<'a, R> {
     /// A shelf over the files of this runtime, none of which is picked.
     pub fn new(rt: &'a R) -> FileShelf<'a, R>
-        ensures { result ≡ record { picked = false; handed = nothing_handed; faults = 0 } }
+        ensures { result ≡ record { picked = false; remaining = None; handed = nothing_handed; tried = []; failed = false; faults = 0 } }
     {
         FileShelf {
             rt,
             file: None,
-            name: Log::new(),
-            bytes: Log::new(),
+            tried: Log::new(),
+            pieces: Log::new(),
+            failed: false,
             faults: 0,
+        }
+    }
+
+    // Reads from the open file, if one is open. Where it tells what its reads will give, just that is handed out.
+    fn read_open(&mut self, buf: &mut [u8]) -> Result<usize, Failed>
+        ensures within { IfOk result (λ n. n ≤ length buf.new) }
+        ensures consumed { IfOk result (λ n. Consumes self.old.remaining self.new.remaining (take n buf.new)) }
+        ensures kept { OnErr result (Keeps self.old.remaining self.new.remaining) }
+        ensures at_end { result ≡ Ok 0 → 0 < length buf.new → IsAtEnd self.new.remaining }
+        ensures handed { IfOk result (λ n. self.new.handed ≡ handed_more self.old.handed (take n buf.new)) }
+        ensures nothing_more { OnErr result (self.new.handed ≡ self.old.handed) }
+        ensures unpicked { self.old.picked ≡ false → IfOk result (λ n. n ≡ 0) }
+        ensures picked_stays { self.new.picked ≡ self.old.picked }
+        ensures tried_stay { self.new.tried ≡ self.old.tried }
+        ensures failed_stays { OnOk result (self.new.failed ≡ self.old.failed) }
+        ensures noted { OnErr result (self.new.failed ≡ true) }
+        ensures no_fault { OnOk result (self.new.faults ≡ self.old.faults) }
+        ensures counted { OnErr result (self.new.faults ≡ counted self.old.faults) }
+        ensures faults_never_fall { self.old.faults ≤ self.new.faults }
+    {
+        match &mut self.file {
+            None => Ok(0),
+            Some(file) => match file.read(buf) {
+                Ok(count) => {
+                    self.pieces.push(&buf[..count]);
+                    Ok(count)
+                }
+                Err(_) => {
+                    self.failed = true;
+                    self.faults = self.faults.saturating_add(1);
+                    Err(Failed)
+                }
+            },
         }
     }
 }
@@ -69,21 +111,27 @@ impl<R: Files> Shelf for FileShelf<'_, R> {
 
     ghost handed = { λ s. s.handed };
 
+    ghost tried = { λ s. s.tried };
+
+    ghost failed = { λ s. s.failed };
+
     ghost faults = { λ s. s.faults };
+
+    ghost calm = { λ _. ⊥ };
 
     /// Opens the file at this path. Whatever keeps it from being opened is a fault.
     fn pick(&mut self, name: &str) -> Result<(), Failed> {
+        self.tried.push(name.as_bytes());
+        self.pieces = Log::new();
         match fs::open(self.rt, name) {
             Ok(file) => {
                 self.file = Some(file);
-                self.name = Log::new();
-                self.name.append(name.as_bytes());
-                self.bytes = Log::new();
+                self.failed = false;
                 Ok(())
             }
             Err(_) => {
                 self.file = None;
-                self.bytes = Log::new();
+                self.failed = true;
                 self.faults = self.faults.saturating_add(1);
                 Err(Failed)
             }
@@ -91,19 +139,7 @@ impl<R: Files> Shelf for FileShelf<'_, R> {
     }
 
     fn read(&mut self, buf: &mut [u8]) -> Result<usize, Failed> {
-        match &mut self.file {
-            None => Ok(0),
-            Some(file) => match file.read(buf) {
-                Ok(count) => {
-                    self.bytes.append(&buf[..count]);
-                    Ok(count)
-                }
-                Err(_) => {
-                    self.faults = self.faults.saturating_add(1);
-                    Err(Failed)
-                }
-            },
-        }
+        self.read_open(buf)
     }
 }
 
@@ -112,25 +148,32 @@ impl<R: Files> Shelf for FileShelf<'_, R> {
 pub struct OutSink<'a, R: Print> {
     rt: &'a R,
     taken: Log,
+    offered: Log,
+    stalled: bool,
+    failed: bool,
     faults: u64,
 }
 
 impl<'a, R: Print> Model for OutSink<'a, R> {
+    ghost use Rattle.std.specs.List.{concat};
     ghost use Rattle.sil_io.specs.Outside.{OutState};
 
     ghost Value = { OutState };
 
-    ghost view = { λ s. record { taken = s.taken.value; faults = s.faults } };
+    ghost view = { λ s. record { taken = concat s.taken.value; offered = s.offered.value; stalled = s.stalled; failed = s.failed; faults = s.faults } };
 }
 
 impl<'a, R: Print> OutSink<'a, R> {
     /// A sink over the output of this runtime.
     pub fn new(rt: &'a R) -> OutSink<'a, R>
-        ensures { result ≡ record { taken = []; faults = 0 } }
+        ensures { result ≡ record { taken = []; offered = []; stalled = false; failed = false; faults = 0 } }
     {
         OutSink {
             rt,
             taken: Log::new(),
+            offered: Log::new(),
+            stalled: false,
+            failed: false,
             faults: 0,
         }
     }
@@ -143,16 +186,27 @@ impl<R: Print> Sink for OutSink<'_, R> {
 
     ghost taken = { λ s. s.taken };
 
+    ghost offered = { λ s. s.offered };
+
+    ghost stalled = { λ s. s.stalled };
+
+    ghost failed = { λ s. s.failed };
+
     ghost faults = { λ s. s.faults };
 
     /// Writes to the output and flushes it. Whatever keeps the bytes from being written or flushed is a fault.
     fn write(&mut self, bytes: &[u8]) -> Result<usize, Failed> {
-        match write_and_flush(self.rt, bytes) {
+        self.offered.push(bytes);
+        match write_and_flush(&mut io::writer(self.rt), bytes) {
             Ok(count) => {
-                self.taken.append(&bytes[..count]);
+                self.taken.push(&bytes[..count]);
+                self.stalled = count == 0 && !bytes.is_empty();
+                self.failed = false;
                 Ok(count)
             }
             Err(_) => {
+                self.stalled = false;
+                self.failed = true;
                 self.faults = self.faults.saturating_add(1);
                 Err(Failed)
             }
@@ -160,14 +214,17 @@ impl<R: Print> Sink for OutSink<'_, R> {
     }
 
     fn note_stall(&mut self) {
+        self.stalled = false;
+        self.failed = true;
         self.faults = self.faults.saturating_add(1);
     }
 }
 
-fn write_and_flush(rt: &impl Print, bytes: &[u8]) -> io::Result<usize>
-    ensures { IfOk result (λ n. n ≤ length bytes.now) }
+// Where the writer tells what it holds, it holds the first bytes of these, as many as are answered.
+fn write_and_flush<W: Write>(out: &mut W, bytes: &[u8]) -> io::Result<usize>
+    ensures within { IfOk result (λ n. n ≤ length bytes.now) }
+    ensures written { IfOk result (λ n. Appends (W.contents out.old) (W.contents out.new) (take n bytes.now)) }
 {
-    let mut out = io::writer(rt);
     let count = out.write(bytes)?;
     out.flush()?;
     Ok(count)

@@ -1,5 +1,5 @@
 //! Reading a picked file whole.
-ghost use Rattle.std.specs.Prelude.{◌≡◌, ℕ, ◌+◌, ◌≤◌, ◌<◌, ◌^◌, Bool, true, false, List, [], Option, take, drop, length, vec_len, is_ok, IsTrue, IfOk, OnOk, OnErr, IsErrOf};
+ghost use Rattle.std.specs.Prelude.{◌≡◌, ℕ, ◌+◌, ◌≤◌, ◌<◌, ◌^◌, Bool, true, false, List, [], ◌∷◌, ◌++◌, Option, take, drop, length, vec_len, is_ok, is_err, IsTrue, IsSome, IsOk, IfOk, OnOk, OnErr, IsErrOf};
 ghost use Rattle.sil_io.specs.Faults.{CountsFault};
 ghost use Rattle.sil_io.specs.Handed.{Handed, nothing_handed, just_picked, handed_more, HandsMoreThan, HandsAtMost, HandsFrontOf};
 
@@ -24,8 +24,17 @@ pub trait Shelf {
     // which file is picked, if one is, and the bytes that `read` handed out since, in order
     ghost handed: { Self → Handed };
 
+    // the names that were asked of `pick`, in order
+    ghost tried: { Self → List (List ℕ) };
+
+    // whether the last pick failed, or a read after it did
+    ghost failed: { Self → Bool };
+
     // how many picks and reads failed; it stands still at 2^64 - 1
     ghost faults: { Self → ℕ };
+
+    // the shelf tells that it is calm: from now on it picks each name that it holds, and reads, without a fault
+    ghost calm: { Self → Type 0 };
 
     /// Picks the file of this name, to be read from its start. After `Failed` no file is picked.
     fn pick(&mut self, name: &str) -> Result<(), Failed>
@@ -35,8 +44,12 @@ pub trait Shelf {
         ensures anew { OnOk result (handed self.new ≡ just_picked name.now) }
         ensures no_file { OnErr result (handed self.new ≡ nothing_handed) }
         ensures files_stay { IsTrue tells → (other : List ℕ) → file self.new other ≡ file self.old other }
+        ensures tried { tried self.new ≡ tried self.old ++ name.now ∷ [] }
+        ensures noted { failed self.new ≡ is_err result }
         ensures faults_never_fall { faults self.old ≤ faults self.new }
-        ensures failed { OnErr result (CountsFault (faults self.old) (faults self.new)) };
+        ensures failed { OnErr result (CountsFault (faults self.old) (faults self.new)) }
+        ensures calm_stays { calm self.old → calm self.new }
+        ensures calm_picks { calm self.old → IsSome (file self.old name.now) → IsOk result × (faults self.new ≡ faults self.old) };
 
     /// Moves the next bytes of the picked file to the front of the buffer, and answers how many. 0 for a buffer with
     /// room is the end of the file, and so is any read while no file is picked. After `Failed` no clause says what is
@@ -51,8 +64,13 @@ pub trait Shelf {
         ensures unpicked { picked self.old ≡ false → IfOk result (λ n. n ≡ 0) }
         ensures picked_stays { picked self.new ≡ picked self.old }
         ensures files_stay { IsTrue tells → (name : List ℕ) → file self.new name ≡ file self.old name }
+        ensures tried_stay { tried self.new ≡ tried self.old }
+        ensures failed_stays { OnOk result (failed self.new ≡ failed self.old) }
+        ensures noted { OnErr result (failed self.new ≡ true) }
         ensures faults_never_fall { faults self.old ≤ faults self.new }
-        ensures failed { OnErr result (CountsFault (faults self.old) (faults self.new)) };
+        ensures failed { OnErr result (CountsFault (faults self.old) (faults self.new)) }
+        ensures calm_stays { calm self.old → calm self.new }
+        ensures calm_reads { calm self.old → IsOk result × (faults self.new ≡ faults self.old) };
 }
 
 /// Why a file was not read whole.
@@ -90,7 +108,15 @@ pub fn read_to_limit<S: Shelf>(
     ensures fault { IsErrOf result ReadFault.Failed → CountsFault (S.faults shelf.old) (S.faults shelf.new) }
     ensures picked_stays { S.picked shelf.new ≡ S.picked shelf.old }
     ensures files_stay { IsTrue S.tells → (name : List ℕ) → S.file shelf.new name ≡ S.file shelf.old name }
+    ensures tried_stay { S.tried shelf.new ≡ S.tried shelf.old }
+    ensures failed_stays { OnOk result (S.failed shelf.new ≡ S.failed shelf.old) }
+    ensures noted { IsErrOf result ReadFault.Failed → S.failed shelf.new ≡ true }
+    ensures untouched { (e : AllocError) → IsErrOf result (ReadFault.Memory e) → shelf.new ≡ shelf.old }
     ensures faults_never_fall { S.faults shelf.old ≤ S.faults shelf.new }
+    // Over a calm shelf no read fails, and it stays calm with its count.
+    ensures calm_stays { S.calm shelf.old → S.calm shelf.new }
+    ensures calm_count { S.calm shelf.old → S.faults shelf.new ≡ S.faults shelf.old }
+    ensures calm_reads { S.calm shelf.old → IsErrOf result ReadFault.Failed → ⊥ }
 {
     let mut bytes = vec![in alloc; 0; limit + 1].map_err(ReadFault::Memory)?;
     let mut filled = 0;

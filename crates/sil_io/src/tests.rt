@@ -66,6 +66,88 @@ fn a_failing_sink_holds_the_bytes_before_the_failure(rt: HostRuntime) -> Result<
 }
 
 #[test]
+fn a_stalling_sink_holds_the_bytes_before_the_stall(rt: HostRuntime) -> Result<(), Fail> {
+    for taken in 0..13usize {
+        let mut sink = MemSink::new(rt.alloc(), 100)?;
+        sink.fail_after(5);
+        sink.stall_after(taken);
+        assert!(rt; write_whole(&mut sink, TEXT).is_err(), "after {taken}");
+        assert_eq!(rt; sink.bytes(), &TEXT[..taken]);
+        assert_eq!(rt; sink.write(TEXT), Ok(0));
+        assert_eq!(rt; sink.write(b""), Ok(0));
+        sink.fail_after(1);
+        assert_eq!(rt; sink.write(TEXT), Ok(1));
+        assert!(rt; sink.write(TEXT).is_err());
+    }
+    // where the room is full it fails, though a stall is planned there
+    let mut full = MemSink::new(rt.alloc(), 5)?;
+    full.stall_after(5);
+    assert_eq!(rt; full.write(TEXT), Ok(5));
+    assert!(rt; full.write(TEXT).is_err());
+    Ok(())
+}
+
+#[test]
+fn picks_fail_from_the_plan_on(rt: HostRuntime) -> Result<(), Fail> {
+    let mut shelf = MemShelf::new(rt.alloc());
+    shelf.put("loop", TEXT)?;
+    assert!(rt; shelf.pick("loop").is_ok());
+    shelf.fail_pick();
+    for name in ["loop", "other", "loop"] {
+        assert!(rt; shelf.pick(name).is_err(), "{name}");
+        assert_eq!(rt; read_to_limit(rt.alloc(), &mut shelf, 13)?.len(), 0);
+    }
+    Ok(())
+}
+
+#[test]
+fn the_planned_read_fails_and_no_other(rt: HostRuntime) -> Result<(), Fail> {
+    for planned in 0..8u32 {
+        let mut shelf = MemShelf::new(rt.alloc());
+        shelf.put("loop", TEXT)?;
+        shelf.fail_read_at(1);
+        shelf.fail_read_at(planned);
+        assert!(rt; shelf.pick("loop").is_ok());
+        let mut bytes = [0; 4];
+        let mut taken: Vec<u8> = Vec::new(rt.alloc());
+        // the file takes four reads, and the end of the file one more
+        for call in 1..8u32 {
+            match shelf.read(&mut bytes) {
+                Ok(count) => {
+                    assert!(rt; call != planned, "read {call}");
+                    taken.extend_from_slice(&bytes[..count])?;
+                }
+                Err(_) => assert_eq!(rt; call, planned),
+            }
+        }
+        assert_eq!(rt; taken.as_slice(), TEXT);
+    }
+    Ok(())
+}
+
+#[test]
+fn a_file_whose_read_fails_is_not_read_whole(rt: HostRuntime) -> Result<(), Fail> {
+    for planned in 1..5u32 {
+        let mut shelf = MemShelf::new(rt.alloc());
+        shelf.put("loop", TEXT)?;
+        shelf.fail_read_at(planned);
+        // two reads each: the whole file, and its end
+        for file in 0..2u32 {
+            assert!(rt; shelf.pick("loop").is_ok());
+            let fails = planned.saturating_sub(1) / 2 == file;
+            match read_to_limit(rt.alloc(), &mut shelf, 13) {
+                Ok(bytes) => {
+                    assert!(rt; !fails, "read {planned}");
+                    assert_eq!(rt; bytes.as_slice(), TEXT);
+                }
+                Err(fault) => assert!(rt; fails && matches!(fault, ReadFault::Failed)),
+            }
+        }
+    }
+    Ok(())
+}
+
+#[test]
 fn reads_a_real_file_and_refuses_a_missing_one(rt: HostRuntime) -> Result<(), Fail> {
     let path = "sil-io-test.toml";
     fs::write(&rt, path, TEXT)?;

@@ -1,7 +1,7 @@
 //! Writing a text whole.
-ghost use Rattle.std.specs.Prelude.{◌≡◌, ℕ, ◌≤◌, ◌<◌, ◌++◌, Bool, List, take, length, IsTrue, IfOk, OnOk, OnErr};
+ghost use Rattle.std.specs.Prelude.{◌≡◌, ℕ, ◌≤◌, ◌<◌, ◌++◌, ◌∷◌, ◌↔◌, Bool, true, false, List, [], take, length, is_err, IsTrue, IfOk, OnOk, OnErr};
 ghost use Rattle.sil_io.specs.Faults.{CountsFault};
-ghost use Rattle.sil_io.specs.Bytes.{AppendsPart};
+ghost use Rattle.sil_io.specs.Bytes.{AppendsPart, OffersWhole};
 
 use thiserror::Error;
 
@@ -21,38 +21,59 @@ pub trait Sink {
     // the bytes that `write` answered to have taken, in order
     ghost taken: { Self → List ℕ };
 
+    // the pieces that `write` was offered, in order
+    ghost offered: { Self → List (List ℕ) };
+
+    // whether the last call was a write that answered 0 to a piece that is not empty
+    ghost stalled: { Self → Bool };
+
+    // whether the last call was a write that failed, or noted a stall
+    ghost failed: { Self → Bool };
+
     // how many writes failed or stalled; it stands still at 2^64 - 1
     ghost faults: { Self → ℕ };
 
     /// Writes the first bytes of a piece, and answers how many it took. After `Failed` the bytes written are as
-    /// before.
+    /// before. An answer 0 to a piece that is not empty is a stall.
     fn write(&mut self, bytes: &[u8]) -> Result<usize, Failed>
         ensures within { IfOk result (λ n. n ≤ length bytes.now) }
         ensures appended { IfOk result (λ n. IsTrue tells → written self.new ≡ written self.old ++ take n bytes.now) }
         ensures unchanged { OnErr result (IsTrue tells → written self.new ≡ written self.old) }
         ensures taken { IfOk result (λ n. taken self.new ≡ taken self.old ++ take n bytes.now) }
         ensures nothing_taken { OnErr result (taken self.new ≡ taken self.old) }
+        ensures offered { offered self.new ≡ offered self.old ++ bytes.now ∷ [] }
+        ensures stalls { IsTrue (stalled self.new) ↔ ((result ≡ Ok 0) × (0 < length bytes.now)) }
+        ensures noted { failed self.new ≡ is_err result }
         ensures faults_never_fall { faults self.old ≤ faults self.new }
         ensures failed { OnErr result (CountsFault (faults self.old) (faults self.new)) };
 
-    /// Counts a stall: a write that took nothing of a piece that has bytes.
+    /// Counts the stall of the last write.
     fn note_stall(&mut self)
+        requires { IsTrue (stalled self.old) }
         ensures unchanged { IsTrue tells → written self.new ≡ written self.old }
         ensures nothing_taken { taken self.new ≡ taken self.old }
+        ensures nothing_offered { offered self.new ≡ offered self.old }
+        ensures over { stalled self.new ≡ false }
+        ensures noted { failed self.new ≡ true }
         ensures faults_never_fall { faults self.old ≤ faults self.new }
         ensures counted { CountsFault (faults self.old) (faults self.new) };
 }
 
 /// Writes all the bytes, in as many writes as the sink wants.
 ///
-/// A write that takes nothing while bytes are left is a stall: the sink counts it, and the answer is `Failed`. After
-/// `Failed` the sink holds a part of the bytes from their start on, and never all of them.
+/// The first write is offered all the bytes, and each further one all that are left; for no bytes there is no write. A
+/// write that takes nothing is a stall: the sink counts it, and the answer is `Failed`. After `Failed` the sink holds a
+/// part of the bytes from their start on, and never all of them.
 pub fn write_whole<K: Sink>(sink: &mut K, bytes: &[u8]) -> Result<(), Failed>
     ensures whole { OnOk result (IsTrue K.tells → K.written sink.new ≡ K.written sink.old ++ bytes.now) }
     ensures part { OnErr result (IsTrue K.tells → AppendsPart (K.written sink.old) (K.written sink.new) bytes.now) }
     ensures all_taken { OnOk result (K.taken sink.new ≡ K.taken sink.old ++ bytes.now) }
     ensures part_taken { OnErr result (AppendsPart (K.taken sink.old) (K.taken sink.new) bytes.now) }
     ensures not_for_nothing { OnErr result (0 < length bytes.now) }
+    ensures untouched { length bytes.now ≡ 0 → sink.new ≡ sink.old }
+    ensures offered { 0 < length bytes.now → OffersWhole bytes.now (K.offered sink.old) (K.offered sink.new) }
+    ensures over { 0 < length bytes.now → K.stalled sink.new ≡ false }
+    ensures noted { 0 < length bytes.now → K.failed sink.new ≡ is_err result }
     ensures faults_never_fall { K.faults sink.old ≤ K.faults sink.new }
     ensures failed { OnErr result (CountsFault (K.faults sink.old) (K.faults sink.new)) }
 {

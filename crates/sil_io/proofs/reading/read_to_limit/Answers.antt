@@ -26,5 +26,45 @@ loop-preserved g c =
           (take-filled c.loop.filled c.in-Ok.count _ c.deref_mut.result.now c.read.new.buf _ _ in_buffer within (omega arith));
       picked_stays = cc;
       files_stay = λ told name. c.in-Ok.ensures.files_stay told name ∙ c.loop.invariant.files_stay told name;
+      tried_stay = c.in-Ok.ensures.tried_stay ∙ c.loop.invariant.tried_stay;
+      failed_stays = c.in-Ok.ensures.failed_stays ∙ c.loop.invariant.failed_stays;
+      calm_stays = λ calm. c.in-Ok.ensures.calm_stays (c.loop.invariant.calm_stays calm);
+      calm_count = λ calm. (c.in-Ok.ensures.calm_reads (c.loop.invariant.calm_stays calm)).1 ∙ c.loop.invariant.calm_count calm;
       faults_never_fall = omega arith;
     }
+
+-- a read that failed
+pub returns-in-Err-clause-tried_stay : goal.returns-in-Err-clause-tried_stay
+returns-in-Err-clause-tried_stay g c = c.in-Err.ensures.tried_stay ∙ c.loop.invariant.tried_stay
+
+pub returns-in-Err-clause-calm_stays : goal.returns-in-Err-clause-calm_stays
+returns-in-Err-clause-calm_stays g c = λ calm. c.in-Err.ensures.calm_stays (c.loop.invariant.calm_stays calm)
+
+pub returns-in-Err-clause-calm_count : goal.returns-in-Err-clause-calm_count
+returns-in-Err-clause-calm_count g c = λ calm. (c.in-Err.ensures.calm_reads (c.loop.invariant.calm_stays calm)).1 ∙ c.loop.invariant.calm_count calm
+
+pub returns-in-Err-clause-calm_reads : goal.returns-in-Err-clause-calm_reads
+returns-in-Err-clause-calm_reads g c = λ calm failed. let never = (c.in-Err.ensures.calm_reads (c.loop.invariant.calm_stays calm)).0 in cc
+
+-- the end of the file
+pub returns-in-Ok-eq0-clause-tried_stay : goal.returns-in-Ok-eq0-clause-tried_stay
+returns-in-Ok-eq0-clause-tried_stay g c = c.in-Ok-eq0.ensures.tried_stay ∙ c.loop.invariant.tried_stay
+
+pub returns-in-Ok-eq0-clause-failed_stays : goal.returns-in-Ok-eq0-clause-failed_stays
+returns-in-Ok-eq0-clause-failed_stays g c = c.in-Ok-eq0.ensures.failed_stays ∙ c.loop.invariant.failed_stays
+
+pub returns-in-Ok-eq0-clause-calm_stays : goal.returns-in-Ok-eq0-clause-calm_stays
+returns-in-Ok-eq0-clause-calm_stays g c = λ calm. c.in-Ok-eq0.ensures.calm_stays (c.loop.invariant.calm_stays calm)
+
+pub returns-in-Ok-eq0-clause-calm_count : goal.returns-in-Ok-eq0-clause-calm_count
+returns-in-Ok-eq0-clause-calm_count g c = λ calm. (c.in-Ok-eq0.ensures.calm_reads (c.loop.invariant.calm_stays calm)).1 ∙ c.loop.invariant.calm_count calm
+
+-- more than the limit
+pub returns-clause-tried_stay : goal.returns-clause-tried_stay
+returns-clause-tried_stay g c = c.loop.invariant.tried_stay
+
+pub returns-clause-calm_stays : goal.returns-clause-calm_stays
+returns-clause-calm_stays g c = c.loop.invariant.calm_stays
+
+pub returns-clause-calm_count : goal.returns-clause-calm_count
+returns-clause-calm_count g c = c.loop.invariant.calm_count

@@ -13,5 +13,9 @@ invariant-loop g l = record {
   handed : g.S.Shelf.handed l.shelf ≡ handed_more (g.S.Shelf.handed l.initial.shelf) (take l.filled l.bytes.items);
   picked_stays : g.S.Shelf.picked l.shelf ≡ g.S.Shelf.picked l.initial.shelf;
   files_stay : IsTrue g.S.Shelf.tells → (name : List ℕ) → g.S.Shelf.file l.shelf name ≡ g.S.Shelf.file l.initial.shelf name;
+  tried_stay : g.S.Shelf.tried l.shelf ≡ g.S.Shelf.tried l.initial.shelf;
+  failed_stays : g.S.Shelf.failed l.shelf ≡ g.S.Shelf.failed l.initial.shelf;
+  calm_stays : g.S.Shelf.calm l.initial.shelf → g.S.Shelf.calm l.shelf;
+  calm_count : g.S.Shelf.calm l.initial.shelf → g.S.Shelf.faults l.shelf ≡ g.S.Shelf.faults l.initial.shelf;
   faults_never_fall : g.S.Shelf.faults l.initial.shelf ≤ g.S.Shelf.faults l.shelf;
 }

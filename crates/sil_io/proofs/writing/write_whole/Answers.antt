@@ -1,7 +1,13 @@
-use Rattle.std.proofs.Common.{◌≤◌, ◌++◌, take, drop, length, arith, ◌-◌, ◌∙◌, ap}
-use Rattle.std.proofs.lemmas.List.{length-take}
+use Rattle.std.proofs.Common.{◌≡◌, ◌≤◌, ◌<◌, ℕ, List, ◌++◌, take, drop, length, arith, ◌-◌, ◌∙◌, ap}
+use Rattle.std.proofs.lemmas.Bool.{false_from_ne_true}
+use Rattle.std.proofs.lemmas.List.{length-take, length-drop, take_all}
 use Rattle.sil_io.proofs.Buffers.{sent-more}
+use Rattle.sil_io.proofs.Logs.{offers-more}
 use Rattle.sil_io.proofs.writing.write_whole.Goals as goal
+
+-- all that is left of a text
+rest_is : (done : ℕ) (text : List ℕ) → take (length text - done) (drop done text) ≡ drop done text
+rest_is done text = take_all (length text - done) (drop done text) (omega (arith, length-drop done text))
 
 pub loop-done-preserved : goal.loop-done-preserved
 loop-done-preserved g c =
@@ -15,5 +21,30 @@ loop-done-preserved g c =
       taken = c.in_ok-count.ensures.taken
           ∙ ap (λ xs. xs ++ take c.in_ok-count.count (take (length c.args.bytes.now - c.loop-done.done) (drop c.loop-done.done c.args.bytes.now))) c.loop-done.invariant.taken
           ∙ sent-more c.loop-done.done c.in_ok-count.count _ _ c.args.bytes.now within;
+      begun = λ none. absurd (c.if-count-eq0.false (omega (arith, none)));
+      offered = λ some. offers-more c.args.bytes.now _ c.loop-done.done _ _ _ (rest_is c.loop-done.done c.args.bytes.now)
+          (λ none. ap g.K.Sink.offered (c.loop-done.invariant.begun none)) c.loop-done.invariant.offered c.in_ok-count.ensures.offered;
+      over = λ some. false_from_ne_true (g.K.Sink.stalled c.write.new.self) (λ stalls. let nothing = (c.in_ok-count.ensures.stalls.0 stalls).0 in c.if-count-eq0.false (cc));
+      noted = λ some. c.in_ok-count.ensures.noted;
       faults_never_fall = omega arith;
     }
+
+pub returns-in_err-count-clause-offered : goal.returns-in_err-count-clause-offered
+returns-in_err-count-clause-offered g c = λ some. offers-more c.args.bytes.now _ c.loop-done.done _ _ _ (rest_is c.loop-done.done c.args.bytes.now)
+    (λ none. ap g.K.Sink.offered (c.loop-done.invariant.begun none)) c.loop-done.invariant.offered c.in_err-count.ensures.offered
+
+pub returns-then-count-eq0-clause-offered : goal.returns-then-count-eq0-clause-offered
+returns-then-count-eq0-clause-offered g c = λ some. offers-more c.args.bytes.now _ c.loop-done.done _ _ _ (rest_is c.loop-done.done c.args.bytes.now)
+    (λ none. ap g.K.Sink.offered (c.loop-done.invariant.begun none)) c.loop-done.invariant.offered (c.note_stall.ensures.nothing_offered ∙ c.in_ok-count.ensures.offered)
+
+pub returns-clause-untouched : goal.returns-clause-untouched
+returns-clause-untouched g c = λ none. c.loop-done.invariant.begun (let h = c.loop-done.invariant.in_range in omega (arith, none, h))
+
+pub returns-clause-offered : goal.returns-clause-offered
+returns-clause-offered g c = λ some. c.loop-done.invariant.offered (let all = c.loop-done-test.false in omega (arith, some, all))
+
+pub returns-clause-over : goal.returns-clause-over
+returns-clause-over g c = λ some. c.loop-done.invariant.over (let all = c.loop-done-test.false in omega (arith, some, all))
+
+pub returns-clause-noted : goal.returns-clause-noted
+returns-clause-noted g c = λ some. c.loop-done.invariant.noted (let all = c.loop-done-test.false in omega (arith, some, all))
