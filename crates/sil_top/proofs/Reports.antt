@@ -10,6 +10,7 @@ use Rattle.sil_model.specs.Figures.{pfd_of, pfh_of, Contains18}
 use Rattle.sil_model.specs.Bands.{IsBandOf, pfd_edge, pfh_edge}
 use Rattle.sil_model.specs.declared.answers.Band.{Band}
 use Rattle.sil_model.specs.declared.answers.Value.{Value}
+use Rattle.budget_laws.proofs.Small.{width_small}
 use Rattle.limit_laws.specs.Exact.Figure.{Pfd, Pfh}
 use Rattle.limit_laws.proofs.Figures.{exact_inside}
 use Rattle.sil_report.specs.FixedBy.{AreWritableEnds, lines_of_counts, line_of_interval}
@@ -55,6 +56,7 @@ true_report l valid within v text is pfd pfh narrow_pfd narrow_pfh phases states
       narrow = narrow_pfh;
       is_band = is.is_pfh;
     };
+    sharp = omega (arith, narrow_pfd, width_small l l.order (record { valid = valid; in_range = valid.order; within = within }));
   };
   pfd_band = refl;
   pfh_band = refl;

@@ -1,5 +1,5 @@
 -- What makes a report true.
-use Rattle.std.specs.Prelude.{◌≡◌, ℕ, ◌+◌, ◌<◌, ◌≤◌, ◌^◌, List, length, None}
+use Rattle.std.specs.Prelude.{◌≡◌, ℕ, ◌+◌, ◌/◌, ◌<◌, ◌≤◌, ◌^◌, List, length, None}
 use Rattle.sil_model.specs.LoopValue.{LoopValue}
 use Rattle.sil_model.specs.Budget.{pfd_width_of, pfh_width_of}
 use Rattle.sil_model.specs.Calendar.{phases_of}
@@ -33,7 +33,7 @@ pub record IsTrueOf (l : LoopValue) (f : Figure) (edge width : ℕ) (i : Interva
   pub is_band : IsBandOf edge i.lo i.hi i.band
 
 -- the text is the report of a loop within all limits, with the interval of PFDavg and that of PFH, and of no others, since one
--- text has one pair of each
+-- text has one pair of each; that of PFDavg is no wider than 1/32,000
 pub record IsTrueReport (l : LoopValue) (text : List ℕ) : Type 0 where
   pub within : first_limit_of l l.order ≡ None
   pub pfd : Interval
@@ -41,6 +41,7 @@ pub record IsTrueReport (l : LoopValue) (text : List ℕ) : Type 0 where
   pub printed : text ≡ report_lines (counts_of l) pfd pfh
   pub true_pfd : IsTrueOf l Pfd pfd_edge (pfd_width_of l l.order) pfd
   pub true_pfh : IsTrueOf l Pfh pfh_edge (pfh_width_of l l.order) pfh
+  pub sharp : pfd.hi ≤ pfd.lo + 10 ^ 18 / 32_000
 
 -- one report of a loop has one interval of each figure
 pub record ReportsFixFigures : Type 0 where
