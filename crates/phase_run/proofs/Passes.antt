@@ -48,8 +48,7 @@ passes_more c order loss m n v u w old mid new first second = record {
   dwell_kept = omega (arith, first.dwell_kept, second.dwell_kept, mul-le-mul_left n first.kept);
   dwell_lack = lacks_more (sum v) (sum u) (sum old) (sum mid) (sum new) m n loss first.lack first.dwell_lack second.dwell_lack;
   grows = λ k h.
-      let inside : k < length mid = omega (arith, first.size) in
-      (
+      let inside : k < length mid = omega (arith, first.size) in (
         omega (arith, (first.grows k h).0, (second.grows k inside).0),
         omega (arith, (first.grows k h).1, (second.grows k inside).1),
       );

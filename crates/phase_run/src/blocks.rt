@@ -87,15 +87,7 @@ pub fn pass_blocks<L: Ledger>(
     for exponent in (1..ladder.rungs()).rev() {
         let rung = ladder.rung(exponent);
         let beats_of_rung = u64::from(rung.beats());
-        pass_rung(
-            room,
-            chain,
-            rung,
-            left / beats_of_rung,
-            v,
-            dwell,
-            steps,
-        );
+        pass_rung(room, chain, rung, left / beats_of_rung, v, dwell, steps);
         left %= beats_of_rung;
     }
     left

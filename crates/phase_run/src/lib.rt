@@ -20,13 +20,12 @@ ghost use Rattle.lumped_laws.specs.ValueLists.{phase_list, phase_mean_list};
 ghost use Rattle.uniformise.specs.Beat.{beat_products};
 ghost use Rattle.phase_run.specs.Passes.{Passes};
 
+pub use by_ladder::run_phase_by_ladder;
 use product_chain::Chain;
 use series_weights::Weights;
 use sil_model::Steps;
 use std::sync::ledger::Ledger;
 use uniformise::Workspace;
-
-pub use by_ladder::run_phase_by_ladder;
 
 /// Runs the beats of a phase of so many hours: `v` becomes lower bounds of the vector at its end, `mean` lower bounds of
 /// its mean over the phase, and `dwell_hours` grows by lower bounds of hours times that mean. All are in units of 2^-48.

@@ -31,9 +31,9 @@ loop-exponent-preserved g c =
     let us = c.args.chain.now.of.subsystems in
     let beats : c.from-beats_of_rung.result ≡ 2 ^ c.rung-rung.result.now.exponent = c.from-beats_of_rung.ensures ∙ c.beats.ensures.value in
     let all : c.loop-exponent.left / c.from-beats_of_rung.result * 2 ^ c.rung-rung.result.now.exponent + c.loop-exponent.left % c.from-beats_of_rung.result
-        ≡ c.loop-exponent.left = used c.loop-exponent.left c.from-beats_of_rung.result (2 ^ c.rung-rung.result.now.exponent) beats in
+    ≡ c.loop-exponent.left = used c.loop-exponent.left c.from-beats_of_rung.result (2 ^ c.rung-rung.result.now.exponent) beats in
     let next : c.args.beats - c.loop-exponent.left % c.from-beats_of_rung.result
-        ≡ (c.args.beats - c.loop-exponent.left) + c.loop-exponent.left / c.from-beats_of_rung.result * 2 ^ c.rung-rung.result.now.exponent =
+    ≡ (c.args.beats - c.loop-exponent.left) + c.loop-exponent.left / c.from-beats_of_rung.result * 2 ^ c.rung-rung.result.now.exponent =
     omega (arith, all, c.loop-exponent.invariant.left) in
     record {
       room = c.pass_rung.ensures.size ∙ c.loop-exponent.invariant.room;

@@ -29,7 +29,7 @@ module _ (g : Over) (c : goal.After-slice_known-10-1 g) where
 
   passes : Passes c.args.chain.now c.args.weights.now (beat_loss_of c.args.chain.now.of.subsystems c.args.weights.now) c.args.beats c.args.v.now
       c.pass_beats.new.v c.fill.new.self c.pass_beats.new.dwell
-  passes = 
+  passes =
       passes_joined c.args.chain.now c.args.weights.now c.args.beats c.pass_blocks-left.result (omega (arith, c.order.ensures.order, c.order.ensures.least))
       c.pass_blocks-left.ensures.left c.args.v.now c.pass_blocks-left.new.v c.pass_beats.new.v c.fill.new.self c.pass_blocks-left.new.dwell
       c.pass_beats.new.dwell c.pass_blocks-left.ensures.passes c.pass_beats.ensures.passes
