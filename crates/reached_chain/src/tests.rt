@@ -79,7 +79,7 @@ fn ticks<L: Ledger>(
         reached.scatter(to.as_slice(), wide.as_mut_slice());
         chain.tick(v.as_slice(), next.as_mut_slice(), &mut steps);
         assert!(rt; wide == next);
-        v.copy_from_slice(next.as_slice());
+        v.copy_from_slice(wide.as_slice());
     }
     Ok(())
 }
