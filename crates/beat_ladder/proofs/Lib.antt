@@ -1,0 +1,10 @@
+pub mod Products
+pub mod BeatSums
+pub mod Powers
+pub mod Squares
+pub mod Lists
+pub mod Numbers
+pub mod Rungs
+pub mod Ladders
+pub mod Tails
+pub mod Passes

@@ -1,0 +1,102 @@
+use Rattle.std.proofs.Common.{◌≡◌, ℕ, ◌+◌, ◌/◌, ◌^◌, ◌<◌, List, ◌++◌, length, slice_index, take, ◌∙◌, arith}
+use Rattle.std.proofs.Math.Seq.{take-append_seam}
+use Rattle.sil_model.specs.Series.{Values}
+use Rattle.vector_laws.specs.Laws.{AreFloors}
+use Rattle.block_laws.specs.Block.{IsGathered}
+use Rattle.beat_ladder.specs.Powers.{power_of}
+use Rattle.beat_ladder.specs.Losses.{IsStep}
+use Rattle.beat_ladder.specs.declared.rung.Rung.{Rung}
+use Rattle.beat_ladder.proofs.Tails.{tail}
+use Rattle.beat_ladder.proofs.Passes.{passed_after, passed_most, passed_least, passed_dwelt, passed_dwell_most, passed_dwell_least, passed_grows, passed_products}
+use Rattle.beat_ladder.proofs.room.BlockRoom.pass.Given.{Over}
+use Rattle.beat_ladder.proofs.room.BlockRoom.pass.Goals as goal
+
+-- a vector that was written over as a whole
+written : (n : ℕ) (xs ys : List ℕ) → n ≡ length xs → take n (xs ++ ys) ≡ xs
+written n xs ys e = rw e (take-append_seam xs ys)
+
+module _ (g : Over) (c : goal.After-slice_known-4-1 g) where
+  abbrev B : (Values ℕ → Values ℕ) → Type 0
+  B T = IsStep (g.T.Tick.step c.args.tick.now) T
+
+  abbrev loss : ℕ
+  loss = g.T.Tick.loss c.args.tick.now
+
+  abbrev r : Rung
+  r = c.args.rung.now
+
+  ends : c.deref.result.now ≡ c.gather.new.ends
+  ends = c.deref.ensures.value ∙ written _ c.gather.new.ends _ (omega arith)
+
+  stays : c.deref-2.result.now ≡ c.gather.new.stays
+  stays = c.deref-2.ensures.value ∙ written _ c.gather.new.stays _ (omega arith)
+
+  ends_gathered : IsGathered B loss c.args.v.now c.gather.new.ends (power_of r.exponent) (r.low + length r.numbers.items)
+  ends_gathered = rw c.copy_from_slice.ensures.items at c.gather.ensures.ends
+
+  stays_gathered : IsGathered B loss c.args.v.now c.gather.new.stays (tail r.exponent r.low r.numbers.items r.tails.items r.held r.tailed)
+      (r.low + length r.numbers.items)
+  stays_gathered = rw c.copy_from_slice.ensures.items at c.gather.ensures.stays
+
+  floors : AreFloors (2 ^ 48) c.gather.new.ends c.round_down.new.to
+  floors = rw ends at c.round_down.ensures
+
+  old_long : length c.args.dwell.now ≡ length c.gather.new.stays
+  old_long = omega arith
+
+  added : (k : ℕ) → k < length c.gather.new.stays → slice_index c.add_rounded_down.new.to k
+      ≡ slice_index c.args.dwell.now k + slice_index c.gather.new.stays k / 2 ^ 48
+  added = rw stays at c.add_rounded_down.ensures.added
+
+  size : length c.round_down.new.to ≡ g.T.Tick.size c.args.tick.now
+  size = omega (arith, floors.same_length)
+
+  dwell_size : length c.add_rounded_down.new.to ≡ g.T.Tick.size c.args.tick.now
+  dwell_size = omega (arith, c.add_rounded_down.ensures.size, c.requires.dwell)
+
+pub returns-clause-after : goal.returns-clause-after
+returns-clause-after g c =
+    passed_after (B g c) (loss g c) c.args.v.now (r g c).exponent (r g c).low (r g c).numbers.items (r g c).tails.items (r g c).held (r g c).tailed
+    c.requires.usable c.gather.new.ends c.round_down.new.to (ends_gathered g c) (floors g c)
+
+pub returns-clause-kept : goal.returns-clause-kept
+returns-clause-kept g c =
+    passed_most (B g c) (loss g c) c.args.v.now (r g c).exponent (r g c).low (r g c).numbers.items (r g c).tails.items (r g c).held (r g c).tailed
+    c.requires.usable c.gather.new.ends c.round_down.new.to (ends_gathered g c) (floors g c)
+
+pub returns-clause-lack : goal.returns-clause-lack
+returns-clause-lack g c =
+    rw (size g c) at
+    (passed_least (B g c) (loss g c) c.args.v.now (r g c).exponent (r g c).low (r g c).numbers.items (r g c).tails.items (r g c).held (r g c).tailed
+    c.requires.usable c.gather.new.ends c.round_down.new.to (ends_gathered g c) (floors g c) c.requires.mass)
+
+pub returns-clause-dwelt : goal.returns-clause-dwelt
+returns-clause-dwelt g c =
+    passed_dwelt (B g c) (loss g c) c.args.v.now (r g c).exponent (r g c).low (r g c).numbers.items (r g c).tails.items (r g c).held (r g c).tailed
+    c.requires.usable c.gather.new.stays c.args.dwell.now c.add_rounded_down.new.to (stays_gathered g c) (old_long g c)
+    c.add_rounded_down.ensures.size (added g c)
+
+pub returns-clause-dwell_kept : goal.returns-clause-dwell_kept
+returns-clause-dwell_kept g c =
+    passed_dwell_most (B g c) (loss g c) c.args.v.now (r g c).exponent (r g c).low (r g c).numbers.items (r g c).tails.items (r g c).held (r g c).tailed
+    c.requires.usable c.gather.new.stays c.args.dwell.now c.add_rounded_down.new.to (stays_gathered g c) (old_long g c)
+    c.add_rounded_down.ensures.size (added g c)
+
+pub returns-clause-dwell_lack : goal.returns-clause-dwell_lack
+returns-clause-dwell_lack g c =
+    rw (dwell_size g c) at
+    (passed_dwell_least (B g c) (loss g c) c.args.v.now (r g c).exponent (r g c).low (r g c).numbers.items (r g c).tails.items (r g c).held (r g c).tailed
+    c.requires.usable c.gather.new.stays c.args.dwell.now c.add_rounded_down.new.to (stays_gathered g c) (old_long g c)
+    c.add_rounded_down.ensures.size (added g c) c.requires.mass)
+
+pub returns-clause-grows : goal.returns-clause-grows
+returns-clause-grows g c =
+    passed_grows (B g c) (loss g c) c.args.v.now (r g c).exponent (r g c).low (r g c).numbers.items (r g c).tails.items (r g c).held (r g c).tailed
+    c.requires.usable c.gather.new.stays c.args.dwell.now c.add_rounded_down.new.to (stays_gathered g c) (old_long g c)
+    c.add_rounded_down.ensures.size (added g c) c.requires.mass
+
+pub returns-clause-steps : goal.returns-clause-steps
+returns-clause-steps g c =
+    let r = c.args.rung.now in
+    passed_products (IsStep (g.T.Tick.step c.args.tick.now)) (g.T.Tick.loss c.args.tick.now) c.args.v.now r.exponent r.low r.numbers.items r.tails.items
+    r.held r.tailed c.args.steps.now c.gather.new.steps (g.T.Tick.products c.args.tick.now) (g.T.Tick.size c.args.tick.now) c.gather.ensures.steps

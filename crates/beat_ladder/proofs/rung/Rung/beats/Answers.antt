@@ -1,0 +1,6 @@
+use Rattle.std.proofs.Common.{arith}
+use Rattle.beat_ladder.proofs.Rungs.{beats-le}
+use Rattle.beat_ladder.proofs.rung.Rung.beats.Goals as goal
+
+pub returns-clause-small : goal.returns-clause-small
+returns-clause-small c = omega (arith, beats-le c.args.self.now.exponent c.args.self.now.few)

@@ -1,0 +1,8 @@
+use Rattle.std.proofs.Common.{◌≡◌, ℕ, ◌+◌, ◌<◌, ◌≤◌, length, slice_index}
+use Rattle.beat_ladder.proofs.sums.add_all.Given as goal
+
+abbrev pub invariant-loop-k : goal.invariant-loop-k
+invariant-loop-k l = record {
+  done : (k : ℕ) → k < l.k → slice_index l.sums k ≡ slice_index l.fn.sums k + slice_index l.vector k;
+  left : (k : ℕ) → l.k ≤ k → k < length l.vector → slice_index l.sums k ≡ slice_index l.fn.sums k;
+}

@@ -1,0 +1,4 @@
+pub mod Powers
+pub mod Rungs
+pub mod Losses
+pub mod Rooms
