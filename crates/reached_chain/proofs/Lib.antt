@@ -7,3 +7,4 @@ pub mod Marks
 pub mod Listed
 pub mod Begun
 pub mod Rooms
+pub mod Phases

@@ -9,6 +9,9 @@
 //! - [`ReachedChain`] keeps all of it, and its room for every phase of a loop.
 #![tactic(auto)]
 
+ghost use Rattle.reached_chain.specs.Reached.{ReachedValue, AreClosed};
+ghost use Rattle.reached_chain.specs.Phases.{PlacesLaw};
+
 mod closure;
 mod compact;
 mod reached;
@@ -16,3 +19,9 @@ mod reached;
 mod tests;
 
 pub use reached::ReachedChain;
+
+/// The step of the ticks over the places: it is linear, and many beats of it are no greater than those of all values. So
+/// what is known of a phase over the places, by values that are read there, is known of the phase.
+pub fn places_law()
+    ensures { (r : ReachedValue) → AreClosed r.chain.of.subsystems r.chain.hours r.chain.beats r.places → PlacesLaw r }
+{}

@@ -12,6 +12,7 @@ ghost use Rattle.reached_chain.specs.Reached.{AreClosed, IsElsewhere, IsWithin, 
 
 use crate::closure::{mark_reached, mark_support};
 use crate::compact::{compact, list_places};
+use beat_ladder::Tick;
 use common_cause::events;
 use product_chain::{Chain, Entry, gather};
 use sil_model::{Loop, Steps};
@@ -153,6 +154,25 @@ impl ReachedChain {
             to,
             steps,
         );
+    }
+}
+
+impl Tick for ReachedChain {
+    ghost use Rattle.std.specs.Prelude.{◌+◌, ◌*◌, length};
+    ghost use Rattle.sil_model.specs.Sizes.{states_of};
+    ghost use Rattle.product_chain.specs.Kept.{events_number};
+    ghost use Rattle.reached_chain.specs.Reached.{step_of_places};
+
+    ghost size = { λ r. length r.places };
+
+    ghost step = { step_of_places };
+
+    ghost loss = { λ r. events_number r.chain.of.subsystems + length r.places };
+
+    ghost products = { λ r. states_of r.chain.of.subsystems * (events_number r.chain.of.subsystems + 1) };
+
+    fn tick<L: Ledger>(&self, from: &[u128], to: &mut [u128], steps: &mut Steps<L>) {
+        ReachedChain::tick(self, from, to, steps);
     }
 }
 

@@ -1,6 +1,8 @@
 //! Places that were counted apart, and ticks over them against ticks over all count vectors.
 
-ghost use Rattle.std.specs.Prelude.{◌≡◌, ◌<◌};
+ghost use Rattle.std.specs.Prelude.{◌≡◌, ◌<◌, ◌≤◌, ◌^◌, sum, vec_len, IfOk};
+ghost use Rattle.sil_model.specs.Sizes.{states_of};
+ghost use Rattle.reached_chain.specs.Reached.{IsWithin};
 
 use crate::ReachedChain;
 use lumping::Space;
@@ -34,8 +36,46 @@ const fn channels(n: u8, du: u64, dd: u64) -> Sample {
     }
 }
 
-/// Three subsystems of 20, 4 and 10 count vectors, so 800 in all. All mass stands at one of them; some ticks over its places
-/// leave the same as those over all count vectors.
+/// All mass at one of 800 count vectors.
+fn all_at(alloc: Global, start: usize) -> Result<Vec<u128>, Fail>
+    requires { start < 800 }
+    ensures size { IfOk result (λ v. vec_len v ≡ 800) }
+    ensures mass { IfOk result (λ v. sum v.items ≤ 2 ^ 48) }
+{
+    let mut v = vec![in alloc; 0u128; 800]?;
+    v[start] = ONE;
+    Ok(v)
+}
+
+/// A tick over the places leaves the same as one over all count vectors.
+fn tick_both<L: Ledger>(
+    rt: &impl Abort,
+    alloc: Global,
+    chain: &Chain,
+    reached: &ReachedChain,
+    v: &mut Vec<u128>,
+    steps: &mut Steps<L>,
+) -> Result<(), Fail>
+    requires chain { reached.now.chain ≡ chain.now }
+    requires size { vec_len v.old ≡ states_of chain.now.of.subsystems }
+    requires mass { sum v.old.items ≤ 2 ^ 48 }
+    requires within { IsWithin reached.now.places v.old.items }
+    ensures size { vec_len v.new ≡ vec_len v.old }
+    ensures mass { sum v.new.items ≤ 2 ^ 48 }
+    ensures within { IsWithin reached.now.places v.new.items }
+{
+    let mut from = vec![in alloc; 0u128; reached.size()]?;
+    let mut to = vec![in alloc; 0u128; reached.size()]?;
+    let mut next = vec![in alloc; 0u128; v.len()]?;
+    reached.gather(v, &mut from);
+    reached.tick(&from, &mut to, steps);
+    chain.tick(v, &mut next, steps);
+    reached.scatter(&to, v);
+    assert!(rt; *v == next);
+    Ok(())
+}
+
+/// Three subsystems of 20, 4 and 10 count vectors, so 800 in all, and as many places from one of them.
 fn ticks<L: Ledger>(
     rt: &impl Abort,
     alloc: Global,
@@ -46,6 +86,7 @@ fn ticks<L: Ledger>(
     requires name { blank.name ≡ L.name }
     requires parts { blank.parts ≡ L.parts }
     requires some { 0 < blank.parts }
+    requires start { start < 800 }
 {
     let mut steps = Steps::<L>::open(blank);
     let samples = [
@@ -60,26 +101,14 @@ fn ticks<L: Ledger>(
         return Err("no space".into());
     };
     assert_eq!(rt; space.size(), 800);
-    assert!(rt; start < 800);
     assert!(rt; beats_of(&l, 8760) <= 3000);
     let chain = Chain::new(alloc, &l, &space, 8760, 3000)?;
-    let mut v = vec![in alloc; 0u128; 800]?;
-    v[start] = ONE;
+    let mut v = all_at(alloc, start)?;
     let mut reached = ReachedChain::new(alloc, &l, &chain)?;
-    assert_eq!(rt; reached.size(), 0);
-    reached.reach(&chain, v.as_slice());
+    reached.reach(&chain, &v);
     assert_eq!(rt; reached.size(), places);
-    let mut from = vec![in alloc; 0u128; places]?;
-    let mut to = vec![in alloc; 0u128; places]?;
-    let mut next = vec![in alloc; 0u128; 800]?;
-    let mut wide = vec![in alloc; 1u128; 800]?;
     for _ in 0..5 {
-        reached.gather(v.as_slice(), from.as_mut_slice());
-        reached.tick(from.as_slice(), to.as_mut_slice(), &mut steps);
-        reached.scatter(to.as_slice(), wide.as_mut_slice());
-        chain.tick(v.as_slice(), next.as_mut_slice(), &mut steps);
-        assert!(rt; wide == next);
-        v.copy_from_slice(wide.as_slice());
+        tick_both(rt, alloc, &chain, &reached, &mut v, &mut steps)?;
     }
     Ok(())
 }
