@@ -1,16 +1,18 @@
 -- The places that are found are closed, and their columns hold the weights between them.
 use Rattle.std.proofs.Common.{◌≡◌, ℕ, ◌+◌, ◌*◌, ◌^◌, ◌<◌, ◌≤◌, inl, inr, List, length, get_or, refl, sym, ap, ◌∙◌, arith}
-use Rattle.std.specs.Prelude.{Bool, true, false, All, if◌then◌else◌}
-use Rattle.std.proofs.lemmas.Bool.{cases_lt}
+use Rattle.std.specs.Prelude.{Bool, true, false, All, if◌then◌else◌, ◌==◌}
+use Rattle.std.proofs.lemmas.Bool.{cases_lt, eq-eqb, eqb-true}
+use Rattle.std.proofs.lemmas.List.Sums.{get_or-le-sum_by}
 use Rattle.sil_fraction.specs.Sum.{sum_below}
 use Rattle.sil_fraction.proofs.Sums.{sum-same}
+use Rattle.vector_laws.proofs.Masses.{sum-zeros}
 use Rattle.sil_model.specs.Sizes.{states_of}
 use Rattle.sil_model.specs.declared.parts.Subsystem.{Subsystem}
 use Rattle.product_chain.specs.declared.column.Entry.{Entry}
 use Rattle.product_chain.specs.Columns.{part, given, AreWeighted}
 use Rattle.product_chain.specs.Held.{HoldWeights}
 use Rattle.product_chain.specs.Weights.{weight_of}
-use Rattle.reached_chain.specs.Marks.{is_marked, IsClosed}
+use Rattle.reached_chain.specs.Marks.{is_marked, IsClosed, IsPassedOn}
 use Rattle.reached_chain.specs.Places.{ArePlaces, AreCompact, compacted}
 use Rattle.reached_chain.specs.Reached.{IsElsewhere, AreClosed, AreBetween}
 use Rattle.reached_chain.proofs.Places.{sum-places, term-le}
@@ -110,3 +112,27 @@ module _ (us : List Subsystem) (hours beats : ℕ) (marks : List Bool) (places r
     weights = given-between;
     number = omega (arith, few, held.number);
   }
+
+-- what weights pass on, the entries of the columns pass on
+module _ (us : List Subsystem) (hours beats : ℕ) (starts : List ℕ) (entries : List Entry) (held : HoldWeights us hours beats starts entries) (P : ℕ → Bool)
+    (on : (i j : ℕ) → i < states_of us → j < states_of us → (weight_of us hours beats i j ≡ 0 → ⊥) → P i ≡ true → P j ≡ true) where
+  some-weight : (j : ℕ) → j < states_of us → (k : ℕ) (d : Entry) → k < length (part starts entries j)
+      → weight_of us hours beats (get_or (part starts entries j) k d).source j ≡ 0 → ⊥
+  some-weight j h k d a none =
+      let x : Entry = get_or (part starts entries j) k d in
+      let u : ℕ → ℕ = λ i. if i == x.source then 1 else 0 in
+      let one : u x.source ≡ 1 = rw (eq-eqb x.source x.source refl) refl in
+      let mine : x.weight * u x.source ≤ given u (part starts entries j) =
+      get_or-le-sum_by (λ (e : Entry). e.weight * u e.source) (part starts entries j) k d a in
+      let here : x.weight * 1 ≤ given u (part starts entries j) = rw one at mine in
+      let go : (i : ℕ) (b : Bool) → (i == x.source) ≡ b → (if b then 1 else 0) * weight_of us hours beats i j ≡ 0 = λ i b. each x.source i j none b in
+      let nothing : sum_below (states_of us) (λ i. u i * weight_of us hours beats i j) ≡ 0 =
+      sum-zeros (states_of us) (λ i. u i * weight_of us hours beats i j) (λ i b. go i (i == x.source) refl) in
+      absurd (omega (arith, here, held.positive j h k d a, held.weights u j h, nothing))
+    where
+      each : (t i j : ℕ) → weight_of us hours beats t j ≡ 0 → (b : Bool) → (i == t) ≡ b → (if b then 1 else 0) * weight_of us hours beats i j ≡ 0
+      each t i j none true e = rw (eqb-true i t e, none) (omega arith)
+      each t i j none false e = omega arith
+
+  pub passed-on : IsPassedOn (states_of us) starts entries P
+  passed-on j h k d a e = on (get_or (part starts entries j) k d).source j (held.columns.sources j h k d a) h (some-weight j h k d a) e

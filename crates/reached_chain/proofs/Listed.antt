@@ -2,7 +2,7 @@
 use Rattle.std.proofs.Common.{◌≡◌, ◌≢◌, ℕ, zero, suc, ◌+◌, ◌<◌, ◌≤◌, inl, inr, List, [], ◌∷◌, ◌++◌, length, get_or, set, refl, sym, ap, ◌∙◌, arith, length-append, get_or-set_same, get_or-set_other}
 use Rattle.std.specs.Prelude.{Bool, true, false}
 use Rattle.std.proofs.lemmas.Bool.{cases_lt}
-use Rattle.std.proofs.lemmas.List.{get_or_append_left}
+use Rattle.std.proofs.lemmas.List.{get_or_append_left, get_or_past}
 use Rattle.std.proofs.Math.Seq.{get_or-append_seam}
 use Rattle.reached_chain.specs.Marks.{is_marked}
 use Rattle.reached_chain.specs.Places.{ArePlaces}
@@ -125,3 +125,13 @@ module _ (marks : List Bool) (places ranks : List ℕ) (is : ArePlaces marks pla
       go : (b : Bool) → is_marked before i ≡ b → get_or v i 0 ≡ 0
       go true f = absurd (apart (sym (kept i f) ∙ unmarked i (omega arith) other))
       go false f = all i h f
+
+-- what is marked is one of the numbers
+pub marked-inside : (marks : List Bool) (i : ℕ) → is_marked marks i ≡ true → i < length marks
+marked-inside marks i e = elim (cases_lt i (length marks)) [
+  | inl p ↦ p
+  | inr p ↦ absurd (apart (sym e ∙ get_or_past marks i false p))
+]
+  where
+    apart : true ≡ false → ⊥
+    apart f = cc

@@ -5,7 +5,7 @@ use Rattle.std.proofs.lemmas.Bool.{cases_lt}
 use Rattle.std.proofs.lemmas.List.Sums.{sum_by-cons}
 use Rattle.product_chain.specs.declared.column.Entry.{Entry}
 use Rattle.product_chain.specs.Columns.{part}
-use Rattle.reached_chain.specs.Marks.{is_marked, left_over, IsClosed}
+use Rattle.reached_chain.specs.Marks.{is_marked, left_over, IsPassedOn, AreNeeded}
 
 abbrev left_of : Bool → ℕ
 left_of b = if b then 0 else 1
@@ -35,18 +35,28 @@ pub record IsTurn (before : List Bool) (starts : List ℕ) (entries : List Entry
   pub closed : found ≡ false → (k : ℕ) → k < j → is_marked marks k ≡ false → All (λ e. is_marked marks e.source ≡ false) (part starts entries k)
   pub fewer : found ≡ true → left_over marks < left_over before
   pub most : left_over marks ≤ left_over before
+  pub least : AreNeeded (length before) starts entries before marks
 
 module _ (before : List Bool) (starts : List ℕ) (entries : List Entry) (j : ℕ) (marks : List Bool) (found : Bool) (is : IsTurn before starts entries j marks found) where
   apart : true ≡ false → ⊥
   apart e = cc
 
   -- the target is marked
-  pub turn-new : j < length marks → is_marked marks j ≡ false → IsTurn before starts entries (j + 1) (set marks j true) true
-  turn-new h e = record {
+  pub turn-new : j < length marks → is_marked marks j ≡ false
+      → ((P : ℕ → Bool) → IsPassedOn (length before) starts entries P → ((i : ℕ) → is_marked marks i ≡ true → P i ≡ true) → P j ≡ true)
+      → IsTurn before starts entries (j + 1) (set marks j true) true
+  turn-new h e led = record {
     kept = λ i f. kept-set marks j i h (is.kept i f);
     closed = λ f. absurd (apart f);
     fewer = λ f. omega (arith, left_over-set marks j h e, is.most);
     most = omega (arith, left_over-set marks j h e, is.most);
+    least = λ P on has i f. elim (cases_lt i j) [
+      | inl p ↦ is.least P on has i (sym (get_or-set_other marks j i true false (λ d. absurd (omega arith))) ∙ f)
+      | inr p ↦ elim (cases_lt j i) [
+        | inl q ↦ is.least P on has i (sym (get_or-set_other marks j i true false (λ d. absurd (omega arith))) ∙ f)
+        | inr q ↦ let s : i ≡ j = omega arith in rw s (led P on (is.least P on has))
+      ]
+    ];
   }
 
   -- it is not
@@ -59,4 +69,5 @@ module _ (before : List Bool) (starts : List ℕ) (entries : List Entry) (j : �
     ];
     fewer = is.fewer;
     most = is.most;
+    least = is.least;
   }

@@ -1,5 +1,5 @@
 -- The part of a chain at some places alone, and vectors and value lists over the places.
-use Rattle.std.specs.Prelude.{◌≡◌, ℕ, ◌+◌, ◌*◌, ◌<◌, ◌≤◌, List, length, slice_index}
+use Rattle.std.specs.Prelude.{◌≡◌, ℕ, Bool, true, ◌+◌, ◌*◌, ◌<◌, ◌≤◌, List, length, slice_index}
 use Rattle.sil_fraction.specs.Fraction.{Fraction, ◌*ℚ◌, ratio}
 use Rattle.sil_fraction.specs.Sum.{total_below, sum_below}
 use Rattle.sil_model.specs.LoopValue.{IsValid}
@@ -49,6 +49,12 @@ pub record AreClosed (us : List Subsystem) (hours beats : ℕ) (places : List �
   pub below : (k : ℕ) → k < length places → slice_index places k < states_of us
   pub few : length places ≤ states_of us
   pub closed : (k j : ℕ) → k < length places → j < states_of us → IsElsewhere places j → weight_of us hours beats (slice_index places k) j ≡ 0
+
+-- no place is there without need: what the numbers of the vector have and weights pass on, all places have
+abbrev pub AreNoMore : List Subsystem → ℕ → ℕ → List ℕ → List ℕ → Type 0
+AreNoMore us hours beats v places = (P : ℕ → Bool) → ((i : ℕ) → i < length v → (slice_index v i ≡ 0 → ⊥) → P i ≡ true)
+    → ((i j : ℕ) → i < states_of us → j < states_of us → (weight_of us hours beats i j ≡ 0 → ⊥) → P i ≡ true → P j ≡ true)
+    → (k : ℕ) → k < length places → P (slice_index places k) ≡ true
 
 -- columns over the places, which hold the weights between them
 pub record AreBetween (us : List Subsystem) (hours beats : ℕ) (places starts : List ℕ) (entries : List Entry) : Type 0 where

@@ -8,7 +8,7 @@ ghost use Rattle.sil_model.specs.Sizes.{states_of};
 ghost use Rattle.vector_laws.specs.Vectors.{weigh};
 ghost use Rattle.product_chain.specs.Kept.{events_number};
 ghost use Rattle.product_chain.specs.Weights.{weight_of};
-ghost use Rattle.reached_chain.specs.Reached.{AreClosed, IsElsewhere, IsWithin, IsGatheredFrom, at_places, step_of_places};
+ghost use Rattle.reached_chain.specs.Reached.{AreClosed, AreNoMore, IsWithin, IsGatheredFrom, at_places, step_of_places};
 
 use crate::closure::{mark_reached, mark_support};
 use crate::compact::{compact, list_places};
@@ -79,6 +79,7 @@ impl ReachedChain {
         requires v { length v.now ≡ states_of chain.now.of.subsystems }
         ensures chain { self.new.chain ≡ chain.now }
         ensures support { IsWithin self.new.places v.now }
+        ensures least { AreNoMore chain.now.of.subsystems chain.now.hours chain.now.beats v.now self.new.places }
     {
         let columns = chain.columns();
         mark_support(v, self.marks.as_mut_slice());
