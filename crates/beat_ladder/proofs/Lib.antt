@@ -8,3 +8,4 @@ pub mod Rungs
 pub mod Ladders
 pub mod Tails
 pub mod Passes
+pub mod Channels

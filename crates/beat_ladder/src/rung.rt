@@ -104,6 +104,7 @@ impl Rung {
     /// How many beats they are.
     pub fn beats(&self) -> u32
         ensures value { result ≡ 2 ^ self.now.exponent }
+        ensures some { 0 < result }
         ensures small { result ≤ 4096 }
     {
         1 << self.exponent

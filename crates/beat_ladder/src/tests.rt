@@ -1,7 +1,7 @@
 //! The rungs against numbers that were worked out apart, and a channel that fails against the exponential.
 
 ghost use Rattle.std.specs.Prelude.{◌≡◌, ◌^◌, ◌<◌, ◌≤◌};
-ghost use Rattle.sil_fraction.specs.Fraction.{◌*ℚ◌, ratio};
+ghost use Rattle.sil_fraction.specs.Fraction.{◌*ℚ◌, whole, inverse};
 
 use crate::{BlockRoom, Ladder, Tick};
 use sil_model::Steps;
@@ -34,7 +34,13 @@ fn rungs_are_those_of_exact_powers(rt: HostRuntime) -> Result<(), Fail> {
     let mut found = String::new(rt.alloc());
     for exponent in 0..ladder.rungs() {
         let rung = ladder.rung(exponent);
-        let line = format!(in rt.alloc(); "{} {} {} {}\n", rung.low, rung.numbers.len(), rung.missing(), rung.dwell_missing())?;
+        let line = format!(in rt.alloc();
+            "{} {} {} {}\n",
+            rung.low,
+            rung.numbers.len(),
+            rung.missing(),
+            rung.dwell_missing()
+        )?;
         found.push_str(&line)?;
     }
     assert_eq!(rt; found.as_str(), RUNGS);
@@ -44,12 +50,23 @@ fn rungs_are_those_of_exact_powers(rt: HostRuntime) -> Result<(), Fail> {
 /// A rung of more beats than are asked for is not made.
 #[test]
 fn rungs_that_are_needed(rt: HostRuntime) -> Result<(), Fail> {
-    for (beats, rungs) in [(0, 0), (1, 1), (2, 2), (3, 2), (4, 3), (1095, 11), (4096, 13)] {
+    for (beats, rungs) in [
+        (0, 0),
+        (1, 1),
+        (2, 2),
+        (3, 2),
+        (4, 3),
+        (1095, 11),
+        (4096, 13),
+    ] {
         let ladder = Ladder::new(rt.alloc(), beats)?;
         assert_eq!(rt; ladder.rungs(), rungs, "{beats}");
     }
     Ok(())
 }
+
+/// One, in units of 2^-48.
+const ONE: u64 = 1 << 48;
 
 /// A channel that works, until it fails for good. Its vector has the chance that it works alone.
 #[derive(Drop)]
@@ -61,7 +78,7 @@ struct Channel {
 impl Tick for Channel {
     ghost size = { λ c. 1 };
 
-    ghost step = { λ c f i. ratio c.stays (2 ^ 48) *ℚ f i };
+    ghost step = { λ c f i. (whole c.stays *ℚ f i) *ℚ inverse (whole (2 ^ 48)) };
 
     ghost loss = { λ c. 2 ^ 48 };
 
@@ -87,7 +104,7 @@ fn pass<L: Ledger>(rt: &(impl Abort + AllocGlobal), blank: Blank) -> Result<(), 
         let beats = 1u128 << exponent;
         // In so many beats about one failure comes.
         let channel = Channel {
-            stays: (1 << 48) - (1 << (48 - exponent)),
+            stays: ONE - (ONE >> exponent),
         };
         let mut v = [1u128 << 48];
         let mut dwell = [5u128];
@@ -98,8 +115,18 @@ fn pass<L: Ledger>(rt: &(impl Abort + AllocGlobal), blank: Blank) -> Result<(), 
             &mut dwell,
             &mut steps,
         );
-        assert!(rt; v[0] <= works && works - v[0] <= 200 * beats, "end by the rung {exponent}");
-        assert!(rt; dwell[0] <= 5 + beats * (worked + 1) && beats * worked - dwell[0] <= 200 * beats * beats, "dwell by the rung {exponent}");
+        assert!(rt; v[0] <= works, "end by the rung {exponent}");
+        assert!(rt;
+            works - v[0] <= 200 * beats,
+            "end by the rung {exponent} lacks"
+        );
+        let most = 5 + beats * (worked + 1);
+        assert!(rt; dwell[0] <= most, "dwell by the rung {exponent}");
+        let lacks = most - dwell[0];
+        assert!(rt;
+            lacks >> (2 * exponent) < 202,
+            "dwell by the rung {exponent} lacks"
+        );
     }
     Ok(())
 }

@@ -12,8 +12,9 @@ ghost use Rattle.mission_laws.specs.UnderWay.{PassesPhase};
 ghost use Rattle.uniformise.specs.Beat.{beat_products};
 ghost use Rattle.loop_value.specs.Mission.{IsOf, IsPlanOf, HasReached, greatest_of, phase_products, tests_products, test_products};
 
+use beat_ladder::{BlockRoom, Ladder};
 use lumping::Space;
-use phase_run::run_phase;
+use phase_run::run_phase_by_ladder;
 use product_chain::Chain;
 use series_weights::Weights;
 use sil_model::{Loop, Steps};
@@ -35,6 +36,10 @@ pub struct Machine {
     pub weights: Weights,
     /// Room for a beat.
     pub work: Workspace,
+    /// Blocks of many beats.
+    pub ladder: Ladder,
+    /// Room for a block of beats.
+    pub blocks: BlockRoom,
     /// The tests of an hour.
     pub tests: Tests,
 }
@@ -92,7 +97,9 @@ fn pass_phase<L: Ledger>(
 {
     let beats = beats_of(l, hours);
     retime(m, l, hours, beats);
-    run_phase(
+    run_phase_by_ladder(
+        &m.ladder,
+        &mut m.blocks,
         &mut m.work,
         &m.chain,
         &m.weights,

@@ -5,6 +5,7 @@ ghost use Rattle.sil_model.specs.Sizes.{all_beats_of, most_beats, states_of, mos
 ghost use Rattle.loop_value.specs.Mission.{IsOf, IsPlanOf, IsPrepared};
 
 use crate::mission::Machine;
+use beat_ladder::{BlockRoom, Ladder};
 use common_cause::events;
 use entry_rates::{entry_rates, up_states};
 use interval_fixed::ONE;
@@ -16,6 +17,9 @@ use std::alloc::{AllocError, Global};
 use test_calendar::{Plan, beats_of};
 use test_matrix::Tests;
 use uniformise::Workspace;
+
+/// About how many products a ladder takes for each beat of its greatest rung.
+const LADDER_PRODUCTS: u64 = 64;
 
 /// All that the computation of a loop needs. Vectors have a number for each count vector, in units of 2^-48.
 #[derive(Drop)]
@@ -110,6 +114,8 @@ fn machine(
     let hours = plan.hours(0);
     let chain = Chain::new(alloc, l, &space, hours, beats_of(l, hours))?;
     let work = Workspace::new(alloc, space.size())?;
+    let ladder = Ladder::new(alloc, beats_of_ladder(l, plan, space.size()))?;
+    let blocks = BlockRoom::new(alloc, space.size())?;
     let tests = Tests::new(alloc, l, &space)?;
     Ok(Machine {
         space,
@@ -117,6 +123,25 @@ fn machine(
         hours,
         weights: Weights::new(order),
         work,
+        ladder,
+        blocks,
         tests,
     })
+}
+
+/// Up to how many beats the blocks of a ladder go. The figures are true with any.
+///
+/// No block is longer than the longest phase. And where the mission is short or its states are few, greater blocks would take
+/// longer to make than they save.
+fn beats_of_ladder(l: &Loop, plan: &Plan, states: usize) -> u64
+    requires plan { IsPlanOf l.now plan.now }
+{
+    let mut longest = 0;
+    let mut all = 0u64;
+    for p in 0..plan.phases() {
+        let beats = beats_of(l, plan.hours(p));
+        longest = beats.max(longest);
+        all = all.saturating_add(beats);
+    }
+    longest.min(all.saturating_mul(states as u64) / LADDER_PRODUCTS)
 }

@@ -1,2 +1,4 @@
 pub mod Beats
 pub mod Means
+pub mod Passes
+pub mod Ends

@@ -1,8 +1,11 @@
 //! The beats of a phase, and the mean over it.
 //!
-//! [`run_phase`] pushes a vector through all beats of a phase, from one test hour to the next. It takes no memory.
+//! [`run_phase`] pushes a vector through all beats of a phase, from one test hour to the next. [`run_phase_by_ladder`] does
+//! the same by blocks of many beats: fewer ticks, and the same clauses. Neither takes memory.
 #![tactic(auto)]
 
+mod blocks;
+mod by_ladder;
 #[cfg(test)]
 mod tests;
 
@@ -15,7 +18,9 @@ ghost use Rattle.vector_laws.specs.Laws.{AreFloors};
 ghost use Rattle.vector_laws.specs.Vectors.{weigh, IsMass};
 ghost use Rattle.lumped_laws.specs.ValueLists.{phase_list, phase_mean_list};
 ghost use Rattle.uniformise.specs.Beat.{beat_products};
+ghost use Rattle.phase_run.specs.Passes.{Passes};
 
+pub use by_ladder::run_phase_by_ladder;
 use product_chain::Chain;
 use series_weights::Weights;
 use sil_model::Steps;
@@ -64,10 +69,32 @@ pub fn run_phase<L: Ledger>(
 {
     prove!(beats == chain.beats());
     mean.fill(0);
-    for _ in 0..beats {
-        work.beat(chain, weights, v, mean, steps);
-    }
+    pass_beats(work, chain, weights, beats, v, mean, steps);
     settle(mean, beats, hours, dwell_hours);
+}
+
+/// Passes so many beats, one after another.
+fn pass_beats<L: Ledger>(
+    work: &mut Workspace,
+    chain: &Chain,
+    weights: &Weights,
+    beats: u64,
+    v: &mut [u128],
+    dwell: &mut [u128],
+    steps: &mut Steps<L>,
+)
+    requires work { work.old ≡ states_of chain.now.of.subsystems }
+    requires v { length v.old ≡ states_of chain.now.of.subsystems }
+    requires dwell { length dwell.old ≡ states_of chain.now.of.subsystems }
+    requires mass { IsMass v.old }
+    requires room { (k : ℕ) → k < length dwell.old → slice_index dwell.old k + beats * 2 ^ 48 ≤ 1_000_000 * 2 ^ 48 }
+    ensures work { work.new ≡ work.old }
+    ensures passes { Passes chain.now weights.now (beat_loss_of chain.now.of.subsystems weights.now) beats v.old v.new dwell.old dwell.new }
+    ensures steps { steps.new ≤ steps.old + beats * beat_products chain.now.of.subsystems weights.now }
+{
+    for _ in 0..beats {
+        work.beat(chain, weights, v, dwell, steps);
+    }
 }
 
 /// Adds hours times the mean of a dwell over its beats, and makes the dwell its mean, both rounded down.

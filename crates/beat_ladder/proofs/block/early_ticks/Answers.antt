@@ -1,4 +1,4 @@
-use Rattle.std.proofs.Common.{◌≡◌, ℕ, ◌*◌, length, sum, refl, ap, arith}
+use Rattle.std.proofs.Common.{ℕ, ◌*◌, length, sum, refl, ap, arith}
 use Rattle.std.proofs.Math.Nat.{mul-le-mul_right}
 use Rattle.std.proofs.lemmas.List.{get_or-replicate}
 use Rattle.vector_laws.proofs.Masses.{sum-constant}

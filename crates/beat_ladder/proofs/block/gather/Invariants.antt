@@ -1,4 +1,4 @@
-use Rattle.std.proofs.Common.{◌≡◌, ◌+◌, ◌*◌, ◌≤◌, length, vec_len}
+use Rattle.std.proofs.Common.{◌≡◌, ◌+◌, ◌*◌, ◌≤◌, vec_len}
 use Rattle.block_laws.specs.Block.{IsTicked, IsGathered}
 use Rattle.beat_ladder.specs.Powers.{power_of}
 use Rattle.beat_ladder.specs.Losses.{IsStep}

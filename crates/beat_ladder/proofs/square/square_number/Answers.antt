@@ -1,4 +1,4 @@
-use Rattle.std.proofs.Common.{◌≡◌, ℕ, suc, ◌+◌, ◌-◌, ◌*◌, ◌/◌, ◌^◌, ◌≤◌, length, slice_index, refl, sym, ap, ◌∙◌, arith}
+use Rattle.std.proofs.Common.{◌≡◌, ℕ, suc, ◌+◌, ◌-◌, ◌*◌, ◌/◌, ◌^◌, ◌≤◌, length, refl, sym, ap, ◌∙◌, arith}
 use Rattle.interval_fixed.proofs.Rounding.{div_ceil-ceiling}
 use Rattle.sil_fraction.specs.Sum.{sum_below}
 use Rattle.sil_fraction.proofs.Sums.{sum-next}

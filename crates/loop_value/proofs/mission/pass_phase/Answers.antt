@@ -4,13 +4,13 @@ use Rattle.loop_value.proofs.mission.pass_phase.Goals as goal
 pub returns-clause-passes : goal.returns-clause-passes
 returns-clause-passes g c =
     passes c.args.l.now c.retime.new.m.chain c.retime.new.m.hours c.args.m.now.weights c.retime.new.m.weights c.args.hours c.beats_of-beats.result
-    c.args.v.now c.run_phase.new.v c.args.dwell.now c.run_phase.new.dwell_hours
+    c.args.v.now c.run_phase_by_ladder.new.v c.args.dwell.now c.run_phase_by_ladder.new.dwell_hours
     c.retime.ensures.parts.chain c.retime.ensures.hours c.retime.ensures.weights c.beats_of-beats.ensures.beats
-    c.run_phase.ensures.ends c.run_phase.ensures.dwells
+    c.run_phase_by_ladder.ensures.ends c.run_phase_by_ladder.ensures.dwells
 
 pub returns-clause-loses : goal.returns-clause-loses
 returns-clause-loses g c =
     loses c.args.l.now c.retime.new.m.chain c.retime.new.m.hours c.args.m.now.weights c.retime.new.m.weights c.args.hours c.beats_of-beats.result
-    c.args.v.now c.run_phase.new.v c.args.dwell.now c.run_phase.new.dwell_hours
+    c.args.v.now c.run_phase_by_ladder.new.v c.args.dwell.now c.run_phase_by_ladder.new.dwell_hours
     c.retime.ensures.parts.chain c.retime.ensures.hours c.retime.ensures.weights c.beats_of-beats.ensures.beats
-    c.run_phase.ensures.kept c.run_phase.ensures.lack c.run_phase.ensures.dwell_kept c.run_phase.ensures.dwell_lack
+    c.run_phase_by_ladder.ensures.kept c.run_phase_by_ladder.ensures.lack c.run_phase_by_ladder.ensures.dwell_kept c.run_phase_by_ladder.ensures.dwell_lack
