@@ -1,10 +1,10 @@
 -- The step at the places: it is linear, and many beats of it are no greater than those of the step of all values.
-use Rattle.std.proofs.Common.{◌≡◌, ℕ, zero, suc, ◌-◌, ◌<◌, List, length, get_or, refl, sym, ap, ◌∙◌}
+use Rattle.std.proofs.Common.{◌≡◌, ℕ, zero, suc, ◌-◌, ◌<◌, List, length, get_or, refl, sym, ap, ◌∙◌, arith}
 use mathlib.Core.Path.{fun_ext}
 use Rattle.sil_fraction.specs.Fraction.{Fraction, ◌+ℚ◌, ◌*ℚ◌, ◌≤ℚ◌, ratio}
 use Rattle.sil_fraction.specs.Sum.{total_below}
-use Rattle.sil_fraction.proofs.Laws.{le_refl, le_trans, mul_assoc, mul-le-left, mul-le-right}
-use Rattle.sil_fraction.proofs.Sums.{below-le, below-add, mul-below, add-mul}
+use Rattle.sil_fraction.proofs.Laws.{le_refl, le_trans, le_of_same, mul_assoc, mul-le-left, mul-le-right}
+use Rattle.sil_fraction.proofs.Sums.{below-le, below-add, mul-below, add-mul, add-le-add}
 use Rattle.sil_model.specs.Series.{Values, times, beat_of, mean_of}
 use Rattle.model_laws.specs.Polynomial.{IsLinear, means_of}
 use Rattle.model_laws.proofs.Operators.{times-linear}
@@ -13,8 +13,11 @@ use Rattle.lumped_laws.specs.ValueLists.{tick_list}
 use Rattle.lumped_laws.proofs.LinearLists.{linear_laws}
 use Rattle.product_chain.specs.Weights.{one_at}
 use Rattle.reached_chain.specs.Reached.{ReachedValue, AreClosed, at_places, spread, step_at, step_of_places}
-use Rattle.reached_chain.specs.Phases.{PlacesLaw}
+use Rattle.reached_chain.specs.Phases.{PlacesLaw, AreOne, ScatteredLaw}
+use Rattle.vector_laws.specs.Vectors.{weigh}
+use Rattle.vector_laws.proofs.Weighing.{weigh-all-le}
 use Rattle.reached_chain.proofs.Places.{spread-le}
+use Rattle.reached_chain.proofs.Scattered.{weigh-gathered}
 
 module _ (places : List ℕ) where
   abbrev at : Values ℕ → Values ℕ
@@ -98,3 +101,35 @@ places_law r closed =
       after = phase-less r.places closed.rising T linear;
       during = dwell-less r.places closed.rising T linear;
     }
+
+-- vectors over the places, and what they are scattered to
+module _ (r : ReachedValue) (closed : AreClosed r.chain.of.subsystems r.chain.hours r.chain.beats r.places) where
+  abbrev step : Values ℕ → Values ℕ
+  step f = tick_list r.chain.of.subsystems (ratio r.chain.hours r.chain.beats) f
+
+  one-weight : (wide small : List ℕ) → AreOne r wide small → (f : Values ℕ) → weigh small (at_places r.places f) ≡ weigh wide f
+  one-weight wide small is f =
+      weigh-gathered r.places wide small closed.rising (λ k h. omega (arith, closed.below k h, is.size)) is.gathered is.within f
+
+  pub scattered_law : (order m : ℕ) (before small : List ℕ) → AreOne r before small → ScatteredLaw r order m before small
+  scattered_law order m before small is = record {
+    after = λ end small_end one known. record {
+      weighed = λ T linear e N high f.
+          let g : Values ℕ = times (beat_of step N) m f in
+          rw (e) (le_trans _ _ _ (le_of_same _ _ (sym (one-weight end small_end one f)))
+          (le_trans _ _ _ (known.weighed (step_of_places r) law.linear refl N high (at_places r.places f))
+          (le_trans _ _ _ (weigh-all-le small _ _ (law.after N m f)) (le_of_same _ _ (one-weight before small is g)))));
+    };
+    dwelt = λ old small_old new small_new one other known. record {
+      weighed = λ T linear e N high f.
+          let g : Values ℕ = means_of (beat_of step N) (mean_of step N) m f in
+          let most : weigh small (means_of (beat_of (step_of_places r) N) (mean_of (step_of_places r) N) m (at_places r.places f)) ≤ℚ weigh before g =
+          le_trans _ _ _ (weigh-all-le small _ _ (law.during N m f)) (le_of_same _ _ (one-weight before small is g)) in
+          rw (e) (le_trans _ _ _ (le_of_same _ _ (sym (one-weight new small_new other f)))
+          (le_trans _ _ _ (known.weighed (step_of_places r) law.linear refl N high (at_places r.places f))
+          (add-le-add _ _ _ _ (le_of_same _ _ (one-weight old small_old one f)) most)));
+    };
+  }
+    where
+      law : PlacesLaw r
+      law = places_law r closed

@@ -9,8 +9,9 @@
 //! - [`ReachedChain`] keeps all of it, and its room for every phase of a loop.
 #![tactic(auto)]
 
+ghost use Rattle.std.specs.Prelude.{ℕ, List};
 ghost use Rattle.reached_chain.specs.Reached.{ReachedValue, AreClosed};
-ghost use Rattle.reached_chain.specs.Phases.{PlacesLaw};
+ghost use Rattle.reached_chain.specs.Phases.{PlacesLaw, AreOne, ScatteredLaw};
 
 mod closure;
 mod compact;
@@ -20,8 +21,9 @@ mod tests;
 
 pub use reached::ReachedChain;
 
-/// The step of the ticks over the places: it is linear, and many beats of it are no greater than those of all values. So
-/// what is known of a phase over the places, by values that are read there, is known of the phase.
+/// The step of the ticks over the places is linear, and many beats of it are no greater than those of all values. So what
+/// is known of some beats of a vector over the places is known, once it is scattered, of the beats of the whole vector.
 pub fn places_law()
-    ensures { (r : ReachedValue) → AreClosed r.chain.of.subsystems r.chain.hours r.chain.beats r.places → PlacesLaw r }
+    ensures law { (r : ReachedValue) → AreClosed r.chain.of.subsystems r.chain.hours r.chain.beats r.places → PlacesLaw r }
+    ensures scattered { (r : ReachedValue) → AreClosed r.chain.of.subsystems r.chain.hours r.chain.beats r.places → (order m : ℕ) (before small : List ℕ) → AreOne r before small → ScatteredLaw r order m before small }
 {}
