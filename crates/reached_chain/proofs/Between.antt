@@ -1,6 +1,6 @@
 -- The places that are found are closed, and their columns hold the weights between them.
-use Rattle.std.proofs.Common.{◌≡◌, ℕ, ◌+◌, ◌*◌, ◌^◌, ◌<◌, ◌≤◌, inl, inr, List, length, get_or, refl, sym, ap, ◌∙◌, arith}
-use Rattle.std.specs.Prelude.{Bool, true, false, All, if◌then◌else◌, ◌==◌}
+use Rattle.std.proofs.Common.{◌≡◌, ℕ, ◌*◌, ◌^◌, ◌<◌, ◌≤◌, inl, inr, List, length, get_or, refl, ap, ◌∙◌, arith}
+use Rattle.std.specs.Prelude.{Bool, true, false, if◌then◌else◌, ◌==◌}
 use Rattle.std.proofs.lemmas.Bool.{cases_lt, eq-eqb, eqb-true}
 use Rattle.std.proofs.lemmas.List.Sums.{get_or-le-sum_by}
 use Rattle.sil_fraction.specs.Sum.{sum_below}
@@ -9,7 +9,7 @@ use Rattle.vector_laws.proofs.Masses.{sum-zeros}
 use Rattle.sil_model.specs.Sizes.{states_of}
 use Rattle.sil_model.specs.declared.parts.Subsystem.{Subsystem}
 use Rattle.product_chain.specs.declared.column.Entry.{Entry}
-use Rattle.product_chain.specs.Columns.{part, given, AreWeighted}
+use Rattle.product_chain.specs.Columns.{part, given}
 use Rattle.product_chain.specs.Held.{HoldWeights}
 use Rattle.product_chain.specs.Weights.{weight_of}
 use Rattle.reached_chain.specs.Marks.{is_marked, IsClosed, IsPassedOn}

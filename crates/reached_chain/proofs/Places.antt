@@ -1,11 +1,11 @@
 -- Places in their order: sums over them, and values that are spread from them.
-use Rattle.std.proofs.Common.{◌≡◌, ℕ, zero, suc, ◌+◌, ◌*◌, ◌<◌, ◌≤◌, inl, inr, refl, sym, ap, ◌∙◌, arith}
+use Rattle.std.proofs.Common.{◌≡◌, ℕ, zero, suc, ◌+◌, ◌<◌, ◌≤◌, inl, inr, refl, sym, ap, ◌∙◌, arith}
 use Rattle.std.specs.Prelude.{Bool, true, false, ◌==◌, if◌then◌else◌}
-use Rattle.std.proofs.lemmas.Bool.{cases_lt, eqb-true, eqb-false, eq-eqb, ne_eqb}
+use Rattle.std.proofs.lemmas.Bool.{cases_lt, eqb-true, ne_eqb}
 use Rattle.sil_fraction.specs.Fraction.{Fraction, ◌+ℚ◌, ◌*ℚ◌, ◌≤ℚ◌, whole}
 use Rattle.sil_fraction.specs.Sum.{total_below, sum_below}
 use Rattle.sil_fraction.proofs.Laws.{zero-le, zero-add, le_trans, le_of_same, le-whole}
-use Rattle.sil_fraction.proofs.Sums.{add-zero, mul-one, mul-zero, below-same, below-constant, whole-sum, sum-add, sum-same}
+use Rattle.sil_fraction.proofs.Sums.{add-zero, mul-one, mul-zero, below-same, below-constant, whole-sum, sum-add}
 use Rattle.vector_laws.proofs.Masses.{sum-zeros}
 use Rattle.product_chain.specs.Weights.{one_at}
 

@@ -1,5 +1,5 @@
 -- A chain before any place is reached.
-use Rattle.std.proofs.Common.{◌≡◌, ℕ, ◌+◌, ◌*◌, ◌<◌, ◌≤◌, List, [], ◌∷◌, length, get_or, refl, arith}
+use Rattle.std.proofs.Common.{◌≡◌, ℕ, ◌≤◌, List, [], ◌∷◌, refl, arith}
 use Rattle.sil_model.specs.LoopValue.{IsValid}
 use Rattle.sil_model.specs.Sizes.{states_of, most_states}
 use Rattle.product_chain.specs.declared.column.Entry.{Entry}

@@ -1,5 +1,5 @@
 -- A vector that holds nothing elsewhere weighs what its numbers at the places weigh.
-use Rattle.std.proofs.Common.{◌≡◌, ℕ, ◌<◌, ◌≤◌, List, length, get_or, refl, sym, ap, ◌∙◌, arith}
+use Rattle.std.proofs.Common.{◌≡◌, ℕ, ◌<◌, List, length, get_or, sym, ap, ◌∙◌, arith}
 use Rattle.std.specs.Prelude.{sum}
 use Rattle.sil_fraction.specs.Fraction.{◌*ℚ◌, whole}
 use Rattle.sil_fraction.proofs.Laws.{le_of_same, le-whole, zero-mul}

@@ -1,8 +1,7 @@
 -- A tick over the places: it encloses, it keeps no more than there was, and it loses little.
-use Rattle.std.proofs.Common.{◌≡◌, ℕ, ◌+◌, ◌*◌, ◌/◌, ◌<◌, ◌≤◌, List, length, get_or, refl, sym, ap, ◌∙◌, arith}
+use Rattle.std.proofs.Common.{◌≡◌, ℕ, ◌+◌, ◌*◌, ◌/◌, ◌<◌, ◌≤◌, List, length, get_or, sym, ap, ◌∙◌, arith}
 use Rattle.std.specs.Prelude.{sum}
 use Rattle.std.proofs.Math.Nat.{div-mul-le_self, lt-div-mul-add, mul-le-mul_left, le_of_mul-le-mul_right}
-use mathlib.Core.Path.{fun_ext}
 use Rattle.sil_fraction.specs.Fraction.{Fraction, ◌*ℚ◌, ◌≤ℚ◌, whole, ratio}
 use Rattle.sil_fraction.specs.Sum.{total_below, sum_below}
 use Rattle.sil_fraction.proofs.Laws.{le_trans, le_of_same, mul-le-right, mul-le-left, mul_comm, mul_assoc, whole-mul, whole-le}
@@ -21,7 +20,7 @@ use Rattle.product_chain.specs.declared.column.Entry.{Entry}
 use Rattle.product_chain.specs.Columns.{part, given}
 use Rattle.product_chain.specs.Kept.{ChainValue, events_number}
 use Rattle.product_chain.specs.Steps.{scale}
-use Rattle.product_chain.specs.Weights.{IsRow, one_at, chance_of, weight_of}
+use Rattle.product_chain.specs.Weights.{IsRow, one_at, weight_of}
 use Rattle.product_chain.proofs.Weights.{row}
 use Rattle.reached_chain.specs.Reached.{IsReached, spread, step_at}
 use Rattle.reached_chain.proofs.Places.{sum-places, sum-swap}

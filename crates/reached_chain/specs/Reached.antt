@@ -1,6 +1,6 @@
 -- The part of a chain at some places alone, and vectors and value lists over the places.
 use Rattle.std.specs.Prelude.{◌≡◌, ℕ, Bool, true, ◌+◌, ◌*◌, ◌<◌, ◌≤◌, List, length, slice_index}
-use Rattle.sil_fraction.specs.Fraction.{Fraction, ◌*ℚ◌, ratio}
+use Rattle.sil_fraction.specs.Fraction.{◌*ℚ◌, ratio}
 use Rattle.sil_fraction.specs.Sum.{total_below, sum_below}
 use Rattle.sil_model.specs.LoopValue.{IsValid}
 use Rattle.sil_model.specs.Sizes.{states_of, most_states}

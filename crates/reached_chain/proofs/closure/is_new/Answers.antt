@@ -1,4 +1,4 @@
-use Rattle.std.proofs.Common.{◌≡◌, ◌+◌, ◌<◌, ◌≤◌, length, get_or, arith}
+use Rattle.std.proofs.Common.{◌+◌, length, arith}
 use Rattle.product_chain.proofs.Parts.{parts-within}
 use Rattle.reached_chain.proofs.closure.is_new.Goals as goal
 

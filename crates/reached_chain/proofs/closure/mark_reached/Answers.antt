@@ -1,5 +1,4 @@
-use Rattle.std.proofs.Common.{◌≡◌, length, ap, arith}
-use Rattle.reached_chain.specs.Marks.{AreNeeded}
+use Rattle.std.proofs.Common.{◌≡◌, length}
 use Rattle.reached_chain.proofs.closure.mark_reached.Goals as goal
 
 pub loop-init : goal.loop-init

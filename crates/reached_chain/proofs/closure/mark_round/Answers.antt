@@ -1,8 +1,5 @@
-use Rattle.std.proofs.Common.{◌≡◌, ◌≢◌, ℕ, ◌+◌, ◌<◌, ◌≤◌, inl, inr, List, length, get_or, set, sym, ap, ◌∙◌, arith}
-use Rattle.std.specs.Prelude.{Bool, true, false}
-use Rattle.std.proofs.lemmas.Bool.{cases_lt}
-use Rattle.reached_chain.specs.Marks.{is_marked, left_over}
-use Rattle.reached_chain.proofs.Marks.{left_over-set, kept-set, IsTurn, turn-new, turn-old}
+use Rattle.std.proofs.Common.{◌+◌, arith}
+use Rattle.reached_chain.proofs.Marks.{IsTurn, turn-new, turn-old}
 use Rattle.reached_chain.proofs.closure.mark_round.Goals.{then-is_new, else-is_new}
 use Rattle.reached_chain.proofs.closure.mark_round.Goals as goal
 

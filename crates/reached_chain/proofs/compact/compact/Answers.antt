@@ -1,4 +1,4 @@
-use Rattle.std.proofs.Common.{◌≡◌, ℕ, ◌+◌, ◌-◌, ◌<◌, ◌≤◌, length, get_or, arith}
+use Rattle.std.proofs.Common.{ℕ, ◌+◌, ◌<◌, ◌≤◌, length, get_or, arith}
 use Rattle.std.specs.Prelude.{vec_len}
 use Rattle.product_chain.proofs.Parts.{parts-within, length-slice}
 use Rattle.reached_chain.proofs.Begun.{starts-le, begun-next}

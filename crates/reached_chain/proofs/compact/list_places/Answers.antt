@@ -1,6 +1,5 @@
-use Rattle.std.proofs.Common.{◌≡◌, ◌+◌, ◌<◌, ◌≤◌, length, arith}
-use Rattle.std.specs.Prelude.{vec_capacity}
-use Rattle.reached_chain.proofs.Listed.{listed-none, listed-not, listed-next, listed-all}
+use Rattle.std.proofs.Common.{arith}
+use Rattle.reached_chain.proofs.Listed.{listed-not, listed-next}
 use Rattle.reached_chain.proofs.compact.list_places.Goals.{then-marks-i+in-Ok, else-marks-i}
 use Rattle.reached_chain.proofs.compact.list_places.Goals as goal
 

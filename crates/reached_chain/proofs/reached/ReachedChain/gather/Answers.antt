@@ -1,4 +1,4 @@
-use Rattle.std.proofs.Common.{◌≡◌, ℕ, ◌<◌, length, get_or, ap, arith}
+use Rattle.std.proofs.Common.{◌≡◌, ap, arith}
 use Rattle.reached_chain.specs.Reached.{ReachedValue, AreClosed, IsGatheredFrom}
 use Rattle.reached_chain.proofs.Scattered.{weigh-gathered, sum-gathered}
 use Rattle.reached_chain.proofs.reached.ReachedChain.gather.Goals as goal

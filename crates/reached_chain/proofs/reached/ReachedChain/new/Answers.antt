@@ -1,8 +1,6 @@
-use Rattle.std.proofs.Common.{◌≡◌, ◌≤◌, ◌+◌, ◌-◌, length, ap, sym, arith}
-use Rattle.std.specs.Prelude.{vec_capacity, vec_len}
+use Rattle.std.proofs.Common.{◌≤◌, ◌-◌, length, ap, arith}
 use Rattle.std.proofs.Math.Nat.{mul-le-mul}
 use Rattle.product_chain.proofs.Pushed.{events-few}
-use Rattle.reached_chain.proofs.Rooms.{reached-none}
 use Rattle.reached_chain.proofs.reached.ReachedChain.new.Goals as goal
 
 pub overflow_mul-size : goal.overflow_mul-size

@@ -1,6 +1,5 @@
-use Rattle.std.proofs.Common.{◌≡◌, ℕ, ◌+◌, ◌<◌, ◌≤◌, ◌++◌, List, length, take, drop, sym, ap, ◌∙◌, arith, vec_len, vec_capacity}
+use Rattle.std.proofs.Common.{◌≡◌, ℕ, ◌<◌, ◌++◌, List, length, take, drop, sym, ap, ◌∙◌, arith}
 use Rattle.std.specs.Prelude.{Bool, true, false}
-use Rattle.sil_model.specs.LoopValue.{LoopValue}
 use Rattle.sil_model.specs.Sizes.{states_of}
 use Rattle.product_chain.proofs.Chains.{written}
 use Rattle.reached_chain.specs.Marks.{is_marked, IsClosed, IsPassedOn}

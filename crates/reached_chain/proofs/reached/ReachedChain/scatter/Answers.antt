@@ -1,4 +1,4 @@
-use Rattle.std.proofs.Common.{◌≡◌, ℕ, ◌<◌, length, get_or, sym, ap, arith}
+use Rattle.std.proofs.Common.{◌≡◌, sym, ap, arith}
 use Rattle.reached_chain.specs.Reached.{ReachedValue, AreClosed, IsGatheredFrom, IsWithin}
 use Rattle.reached_chain.proofs.Scattered.{weigh-gathered, sum-gathered}
 use Rattle.reached_chain.proofs.reached.ReachedChain.scatter.Goals as goal

@@ -1,4 +1,4 @@
-use Rattle.std.proofs.Common.{◌≡◌, ◌≤◌, length, ap, arith}
+use Rattle.std.proofs.Common.{◌≡◌, length, ap, arith}
 use Rattle.reached_chain.specs.Reached.{ReachedValue}
 use Rattle.reached_chain.proofs.Ticked.{IsTickAt, ticked}
 use Rattle.reached_chain.proofs.reached.ReachedChain.tick.Goals as goal
