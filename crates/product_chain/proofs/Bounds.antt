@@ -2,7 +2,7 @@
 use Rattle.std.proofs.Common.{◌≡◌, ℕ, zero, suc, ◌+◌, ◌-◌, ◌*◌, ◌<◌, ◌≤◌, List, [], ◌∷◌, length, get_or, drop, refl, sym, ap, arith, length-append, add-one}
 use Rattle.std.specs.Prelude.{Bool, true, false, All, map, nat_lt, sum_by, if◌then◌else◌, ◌==◌}
 use Rattle.std.proofs.Math.Nat.{mul-le-mul_right, mul-pos, div-mul-le_self, le_of_mul-le-mul_right}
-use Rattle.std.proofs.lemmas.Bool.{eq-eqb}
+use Rattle.std.proofs.lemmas.Bool.{eq-eqb, ltb-true}
 use Rattle.std.proofs.lemmas.List.Elements.{All-append, All-cons, All-nil, All-head, All-tail}
 use Rattle.std.proofs.lemmas.List.Sums.{sum_by-cons, sum_by-take-le, sum_by-take-drop}
 use Rattle.std.proofs.lemmas.List.Sorted.{sum_by-IsPermutation, length_permutation}
@@ -38,6 +38,19 @@ module _ (P : Entry → Type 0) where
       All-append P (kept m.source (rate_of rates m).down) (entries_of rates ms)
       (kept-all m.source (rate_of rates m).down (All-head (λ (m : Move). P (record { source = m.source; weight = (rate_of rates m).down })) m ms all))
       (entries-all rates ms (All-tail (λ (m : Move). P (record { source = m.source; weight = (rate_of rates m).down })) m ms all))
+
+kept-positive : (s w : ℕ) → All (λ e. 0 < e.weight) (kept s w)
+kept-positive s w = go (nat_lt 0 w) refl
+  where
+    go : (b : Bool) → nat_lt 0 w ≡ b → All (λ (e : Entry). 0 < e.weight) (if b then record { source = s; weight = w } ∷ [] else [])
+    go true h = All-cons (λ (e : Entry). 0 < e.weight) (record { source = s; weight = w }) [] (ltb-true 0 w h) (All-nil (λ (e : Entry). 0 < e.weight))
+    go false h = All-nil (λ (e : Entry). 0 < e.weight)
+
+entries-positive : (rates : List TickRate) (ms : List Move) → All (λ e. 0 < e.weight) (entries_of rates ms)
+entries-positive rates [] = All-nil (λ (e : Entry). 0 < e.weight)
+entries-positive rates (m ∷ ms) =
+    All-append (λ (e : Entry). 0 < e.weight) (kept m.source (rate_of rates m).down) (entries_of rates ms) (kept-positive m.source (rate_of rates m).down)
+    (entries-positive rates ms)
 
 length-kept : (s w : ℕ) → length (kept s w) ≤ 1
 length-kept s w = go (nat_lt 0 w)
@@ -98,6 +111,12 @@ module _ (l : LoopValue) (hours beats : ℕ) (rates : List TickRate) (moves : Li
       (All-slice (λ (m : Move). (rate_of rates m).down ≤ scale) moves (get_or move_starts j 0) (get_or move_starts (j + 1) 0)
       (c.known_moves.parts.rising j h) (moves-within j h) (λ k d p. down-small (get_or moves k d) (c.known_moves.known k d p))))
       (kept-all (λ (e : Entry). e.weight ≤ scale) j (get_or stays j 0) stay))
+
+  pub column-positive : (j : ℕ) → j < n → All (λ e. 0 < e.weight) (part starts entries j)
+  column-positive j h =
+      rw (c.columns.columns j h)
+      (All-append (λ (e : Entry). 0 < e.weight) (entries_of rates (part move_starts moves j)) (kept j (get_or stays j 0))
+      (entries-positive rates (part move_starts moves j)) (kept-positive j (get_or stays j 0)))
 
   -- how many entries there are
   column-length : (j : ℕ) → j < n → length (part starts entries j) ≤ length (part move_starts moves j) + 1

@@ -27,6 +27,8 @@ use Rattle.vector_laws.specs.Vectors.{weigh}
 use Rattle.vector_laws.proofs.Masses.{sum_of as sum-places, sum-constant}
 use Rattle.vector_laws.proofs.Weighing.{weigh-below}
 use Rattle.product_chain.specs.Kept.{events_number, AreMoves, AreColumns, IsChain}
+use Rattle.product_chain.specs.Held.{HoldWeights}
+use Rattle.product_chain.proofs.Bounds.{weighted, entries-few, column-positive}
 use Rattle.product_chain.specs.Weights.{one_at, weight_of}
 use Rattle.product_chain.proofs.Weights.{column-weights}
 use Rattle.product_chain.proofs.Row.{step_down, sum_of, stays, row_of, row_below, row_lacks, row_within}
@@ -63,6 +65,10 @@ module _ (us : List Subsystem) (r : All IsSubsystemInRange us) (hours beats : �
   rows v f = all-given us n hours beats rates moves (own-source us r) are.steps (chance-of hours beats rates filled.chances) v f move_starts stays'
       starts entries are.parts are.targets filled.stay filled.columns
 
+  -- each column is given what the weights to its target give
+  pub column-given : (v : ℕ → ℕ) (j : ℕ) → j < n → given v (column j) ≡ sum_below n (λ i. v i * weight_of us hours beats i j)
+  column-given v j h = column-weights us r hours beats enough v (λ k. given v (column k)) j h (rows v (one_at j))
+
   -- each row is below the exact one
   row-exact : (f : ℕ → Fraction) (i : ℕ) → i < n → row_of hours beats (steps_from us i) i f ≤ℚ tick_list us (ratio hours beats) f i *ℚ whole scale
   row-exact f i h = rw (← tick-steps us i hours beats f h) (row_below hours beats some (steps_from us i) (positive us r i) i f)
@@ -94,8 +100,7 @@ module _ (us : List Subsystem) (r : All IsSubsystemInRange us) (hours beats : �
 
     -- each number is one floor of a sum of products
     pub floor-weights : (j : ℕ) → j < n → to j ≡ sum_below n (λ i. v i * weight_of us hours beats i j) / scale
-    floor-weights j h =
-        floors j h ∙ ap (λ x. x / scale) (column-weights us r hours beats enough v (λ k. given v (column k)) j h (rows v (one_at j)))
+    floor-weights j h = floors j h ∙ ap (λ x. x / scale) (column-given v j h)
 
     -- the sum of a row
     abbrev row-sum : ℕ → ℕ
@@ -157,6 +162,16 @@ pub record IsTick (us : List Subsystem) (hours beats : ℕ) (from to : List ℕ)
   pub encloses : (f : Values ℕ) → weigh to f ≤ℚ weigh from (tick_list us (ratio hours beats) f)
   pub kept : sum to ≤ sum from
   pub lack : sum from ≤ sum to + events_number us + states_of us
+
+-- the columns of a chain hold its weights
+pub holds : (l : LoopValue) (hours beats : ℕ) (rates : List TickRate) (moves : List Move) (move_starts stays starts : List ℕ) (entries : List Entry)
+    (capacity : ℕ) → IsChain l hours beats rates moves move_starts stays starts entries capacity → HoldWeights l.subsystems hours beats starts entries
+holds l hours beats rates moves move_starts stays starts entries capacity c = record {
+  columns = weighted l hours beats rates moves move_starts stays starts entries capacity c;
+  positive = column-positive l hours beats rates moves move_starts stays starts entries capacity c;
+  weights = column-given l.subsystems c.valid.subsystems hours beats c.timed.enough rates moves move_starts stays starts entries c.known_moves c.columns;
+  number = rw (length-events l.subsystems) at (entries-few l hours beats rates moves move_starts stays starts entries capacity c);
+}
 
 -- by the columns of a chain
 module _ (l : LoopValue) (hours beats : ℕ) (rates : List TickRate) (moves : List Move) (move_starts stays starts : List ℕ) (entries : List Entry) (capacity : ℕ)

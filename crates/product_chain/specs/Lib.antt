@@ -3,3 +3,4 @@ pub mod Columns
 pub mod Kept
 pub mod Floors
 pub mod Weights
+pub mod Held

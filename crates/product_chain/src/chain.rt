@@ -4,13 +4,15 @@ ghost use Rattle.std.specs.Prelude.{◌≡◌, ℕ, ◌+◌, ◌*◌, ◌/◌, �
 ghost use Rattle.sil_fraction.specs.Sum.{sum_below};
 ghost use Rattle.product_chain.specs.Weights.{weight_of};
 ghost use Rattle.sil_fraction.specs.Fraction.{◌≤ℚ◌, ratio};
-ghost use Rattle.sil_model.specs.Sizes.{states_of};
+ghost use Rattle.sil_model.specs.LoopValue.{IsValid};
+ghost use Rattle.sil_model.specs.Sizes.{states_of, most_states};
 ghost use Rattle.sil_model.specs.Series.{Values};
 ghost use Rattle.vector_laws.specs.Vectors.{weigh};
 ghost use Rattle.lumped_laws.specs.ValueLists.{tick_list};
 ghost use Rattle.product_chain.specs.Kept.{IsTimed, events_number};
+ghost use Rattle.product_chain.specs.Held.{HoldWeights};
 
-use crate::column::{Entry, fill, gather, set_rates, set_stays};
+use crate::column::{Columns, Entry, fill, gather, set_rates, set_stays};
 use crate::moves::{Move, TickRate, moves_of, starts_of};
 use lumping::Space;
 use sil_model::{Loop, Steps};
@@ -126,6 +128,19 @@ impl Chain {
         ensures timed { IsTimed self.now.of.subsystems self.now.hours self.now.beats }
     {
         self.beats
+    }
+
+    /// The columns of a tick, in the order of their targets.
+    pub fn columns(&self) -> Columns<'_>
+        ensures valid { IsValid self.now.of }
+        ensures few { states_of self.now.of.subsystems ≤ most_states }
+        ensures timed { IsTimed self.now.of.subsystems self.now.hours self.now.beats }
+        ensures weights { HoldWeights self.now.of.subsystems self.now.hours self.now.beats result.starts.now result.entries.now }
+    {
+        Columns {
+            entries: self.entries.as_slice(),
+            starts: self.starts.as_slice(),
+        }
     }
 
     /// One tick: each number is the sum of all numbers, each times the weight of its way here, rounded down once.

@@ -17,6 +17,15 @@ pub struct Entry {
     pub weight: u64,
 }
 
+/// Columns, in the order of their targets: the entries of one target lie together.
+#[derive(Clone, Copy, Debug)]
+pub struct Columns<'a> {
+    /// The entries of all targets.
+    pub entries: &'a [Entry],
+    /// Where those of each target begin, and where the last of them end.
+    pub starts: &'a [usize],
+}
+
 /// Sets the chances of the rates, where so many beats take so many hours.
 pub fn set_rates(rates: &mut [TickRate], hours: u64, beats: u64)
     requires some { 1 ≤ beats }
@@ -101,7 +110,7 @@ fn push_entry(entries: &mut Vec<Entry>, source: u32, weight: u64)
     }
 }
 
-/// Sets each number of `to` to what `from` gives to its column, rounded down.
+/// Sets each number of `to` to what `from` gives to its column, rounded down: one multiplication for each entry.
 pub fn gather<L: Ledger>(
     entries: &[Entry],
     starts: &[usize],

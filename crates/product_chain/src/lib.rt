@@ -23,6 +23,7 @@ mod step;
 mod tests;
 
 pub use chain::Chain;
+pub use column::{Columns, Entry, gather};
 
 /// The weights of a tick: none is above its exact chance, and those from one count vector come to at most 1 and lack at
 /// most one unit for each event.

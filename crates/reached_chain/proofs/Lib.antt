@@ -1,0 +1,10 @@
+pub mod Places
+pub mod Columns
+pub mod Between
+pub mod Ticked
+pub mod Scattered
+pub mod Marks
+pub mod Listed
+pub mod Begun
+pub mod Rooms
+pub mod Phases

@@ -1,0 +1,203 @@
+//! The chain over the places that are reached.
+
+ghost use Rattle.std.specs.Prelude.{◌≡◌, ℕ, [], ◌+◌, ◌*◌, ◌/◌, ◌^◌, ◌<◌, ◌≤◌, length, sum, slice_index, IfOk};
+ghost use Rattle.sil_fraction.specs.Fraction.{◌≤ℚ◌};
+ghost use Rattle.sil_fraction.specs.Sum.{sum_below};
+ghost use Rattle.sil_model.specs.Series.{Values};
+ghost use Rattle.sil_model.specs.Sizes.{states_of};
+ghost use Rattle.vector_laws.specs.Vectors.{weigh};
+ghost use Rattle.product_chain.specs.Kept.{events_number};
+ghost use Rattle.product_chain.specs.Weights.{weight_of};
+ghost use Rattle.reached_chain.specs.Reached.{AreClosed, AreNoMore, IsWithin, IsGatheredFrom, at_places, step_of_places};
+
+use crate::closure::{mark_reached, mark_support};
+use crate::compact::{compact, list_places};
+use beat_ladder::Tick;
+use common_cause::events;
+use product_chain::{Chain, Entry, gather};
+use sil_model::{Loop, Steps};
+use std::alloc::{AllocError, Global};
+use std::marker::Model;
+use std::snapshot::Snapshot;
+use std::sync::ledger::Ledger;
+
+/// A chain at the count vectors that a vector can reach, its places.
+///
+/// Contracts see it as the chain and the places, in their order. A vector over the places has a number for each of them.
+#[derive(Drop)]
+pub struct ReachedChain {
+    // The chain, for proofs alone: it has no bytes.
+    of: Snapshot<Chain>,
+    marks: Vec<bool>,
+    ranks: Vec<u32>,
+    places: Vec<u32>,
+    starts: Vec<usize>,
+    entries: Vec<Entry>,
+}
+
+impl Model for ReachedChain {
+    ghost use Rattle.reached_chain.specs.Reached.{ReachedValue};
+
+    ghost Value = { ReachedValue };
+
+    ghost use Rattle.std.specs.Prelude.{vec_capacity, vec_len};
+    ghost use Rattle.reached_chain.specs.Reached.{IsReached, HasRoom};
+
+    ghost view = { λ r. record { chain = r.of.value; places = r.places.items } };
+
+    ghost invariant = { λ r. IsReached r.of.value r.places.items r.starts.items r.entries.items × HasRoom r.of.value (vec_len r.marks) (vec_len r.ranks) (vec_capacity r.places) (vec_capacity r.starts) (vec_capacity r.entries) };
+}
+
+impl ReachedChain {
+    /// Room for what vectors reach by the chains of a loop. There is no place in it yet.
+    pub fn new(alloc: Global, l: &Loop, chain: &Chain) -> Result<ReachedChain, AllocError>
+        requires same { l.now ≡ chain.now.of }
+        ensures { IfOk result (λ r. r ≡ record { chain = chain.now; places = [] }) }
+    {
+        let columns = chain.columns();
+        let size = columns.starts.len() - 1;
+        let events = events(alloc, l)?;
+        let marks = vec![in alloc; false; size]?;
+        let ranks = vec![in alloc; 0u32; size]?;
+        let places = Vec::with_capacity(alloc, size)?;
+        let mut starts = Vec::with_capacity(alloc, size + 1)?;
+        starts.push(0)?;
+        let entries = Vec::with_capacity(alloc, size * (events.len() + 1))?;
+        Ok(ReachedChain {
+            of: Snapshot::of(chain),
+            marks,
+            ranks,
+            places,
+            starts,
+            entries,
+        })
+    }
+
+    /// Finds the places that a vector can reach by a chain of the same loop, and makes it the chain over these.
+    pub fn reach(&mut self, chain: &Chain, v: &[u128])
+        requires same { self.old.chain.of ≡ chain.now.of }
+        requires v { length v.now ≡ states_of chain.now.of.subsystems }
+        ensures chain { self.new.chain ≡ chain.now }
+        ensures support { IsWithin self.new.places v.now }
+        ensures least { AreNoMore chain.now.of.subsystems chain.now.hours chain.now.beats v.now self.new.places }
+    {
+        let columns = chain.columns();
+        mark_support(v, self.marks.as_mut_slice());
+        mark_reached(columns.entries, columns.starts, self.marks.as_mut_slice());
+        list_places(
+            self.marks.as_slice(),
+            &mut self.places,
+            self.ranks.as_mut_slice(),
+        );
+        compact(
+            columns.entries,
+            columns.starts,
+            self.marks.as_slice(),
+            self.ranks.as_slice(),
+            self.places.as_slice(),
+            &mut self.entries,
+            &mut self.starts,
+        );
+        self.of = Snapshot::of(chain);
+    }
+
+    /// How many places there are.
+    pub fn size(&self) -> usize
+        ensures size { result ≡ length self.now.places }
+        ensures closed { AreClosed self.now.chain.of.subsystems self.now.chain.hours self.now.chain.beats self.now.places }
+    {
+        self.places.len()
+    }
+
+    /// Takes the numbers of a vector at the places. A vector that holds nothing elsewhere keeps its mass and its weight.
+    pub fn gather(&self, v: &[u128], small: &mut [u128])
+        requires v { length v.now ≡ states_of self.now.chain.of.subsystems }
+        requires small { length small.old ≡ length self.now.places }
+        ensures gathered { IsGatheredFrom self.now.places v.now small.new }
+        ensures weighed { IsWithin self.now.places v.now → (f : Values ℕ) → weigh small.new (at_places self.now.places f) ≡ weigh v.now f }
+        ensures kept { IsWithin self.now.places v.now → sum small.new ≡ sum v.now }
+    {
+        let _ = self.of;
+        take_at(self.places.as_slice(), v, small);
+    }
+
+    /// Puts the numbers at the places back. Elsewhere the vector holds nothing.
+    pub fn scatter(&self, small: &[u128], v: &mut [u128])
+        requires v { length v.old ≡ states_of self.now.chain.of.subsystems }
+        requires small { length small.now ≡ length self.now.places }
+        ensures gathered { IsGatheredFrom self.now.places v.new small.now }
+        ensures within { IsWithin self.now.places v.new }
+        ensures weighed { (f : Values ℕ) → weigh v.new f ≡ weigh small.now (at_places self.now.places f) }
+        ensures kept { sum v.new ≡ sum small.now }
+    {
+        put_at(self.places.as_slice(), small, v);
+    }
+
+    /// One tick over the places: each number is the sum of all numbers, each times the weight of its way here, rounded down
+    /// once.
+    ///
+    /// By every value list over the places the vector then weighs at most what the list after a step weighed before. It loses
+    /// at most what a tick over all count vectors loses.
+    pub fn tick<L: Ledger>(&self, from: &[u128], to: &mut [u128], steps: &mut Steps<L>)
+        requires from { length from.now ≡ length self.now.places }
+        requires to { length to.old ≡ length self.now.places }
+        requires mass { sum from.now ≤ 2 ^ 48 }
+        ensures floors { (k : ℕ) → k < length self.now.places → slice_index to.new k ≡ sum_below (length self.now.places) (λ l. slice_index from.now l * weight_of self.now.chain.of.subsystems self.now.chain.hours self.now.chain.beats (slice_index self.now.places l) (slice_index self.now.places k)) / 2 ^ 48 }
+        ensures encloses { (g : Values ℕ) → weigh to.new g ≤ℚ weigh from.now (step_of_places self.now g) }
+        ensures kept { sum to.new ≤ sum from.now }
+        ensures lack { sum from.now ≤ sum to.new + events_number self.now.chain.of.subsystems + length self.now.places }
+        ensures steps { steps.new ≤ steps.old + states_of self.now.chain.of.subsystems * (events_number self.now.chain.of.subsystems + 1) }
+    {
+        gather(
+            self.entries.as_slice(),
+            self.starts.as_slice(),
+            from,
+            to,
+            steps,
+        );
+    }
+}
+
+impl Tick for ReachedChain {
+    ghost use Rattle.std.specs.Prelude.{◌+◌, ◌*◌, length};
+    ghost use Rattle.sil_model.specs.Sizes.{states_of};
+    ghost use Rattle.product_chain.specs.Kept.{events_number};
+    ghost use Rattle.reached_chain.specs.Reached.{step_of_places};
+
+    ghost size = { λ r. length r.places };
+
+    ghost step = { step_of_places };
+
+    ghost loss = { λ r. events_number r.chain.of.subsystems + length r.places };
+
+    ghost products = { λ r. states_of r.chain.of.subsystems * (events_number r.chain.of.subsystems + 1) };
+
+    fn tick<L: Ledger>(&self, from: &[u128], to: &mut [u128], steps: &mut Steps<L>) {
+        ReachedChain::tick(self, from, to, steps);
+    }
+}
+
+/// Takes the numbers at the places.
+fn take_at(places: &[u32], v: &[u128], small: &mut [u128])
+    requires below { (k : ℕ) → k < length places.now → slice_index places.now k < length v.now }
+    requires small { length small.old ≡ length places.now }
+    ensures { IsGatheredFrom places.now v.now small.new }
+{
+    for k in 0..places.len() {
+        small[k] = v[places[k] as usize];
+    }
+}
+
+/// Puts numbers at the places, and 0 elsewhere.
+fn put_at(places: &[u32], small: &[u128], v: &mut [u128])
+    requires below { (k : ℕ) → k < length places.now → slice_index places.now k < length v.old }
+    requires rising { (k l : ℕ) → k < l → l < length places.now → slice_index places.now k < slice_index places.now l }
+    requires small { length small.now ≡ length places.now }
+    ensures gathered { IsGatheredFrom places.now v.new small.now }
+    ensures within { IsWithin places.now v.new }
+{
+    v.fill(0);
+    for k in 0..places.len() {
+        v[places[k] as usize] = small[k];
+    }
+}
