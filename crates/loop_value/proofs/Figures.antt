@@ -1,9 +1,7 @@
 -- The figures of a loop, by the means of its mission: they lie between the ends, which are no wider than the budget.
 use Rattle.std.proofs.Common.{◌≡◌, ℕ, suc, ◌+◌, ◌-◌, ◌*◌, ◌^◌, ◌<◌, ◌≤◌, true, false, List, length, sum, get_or, refl, sym, ap, ◌∙◌, arith}
 use Rattle.std.specs.Prelude.{Bool, not, if◌then◌else◌}
-use mathlib.Core.Path.{fun_ext}
-use Rattle.sil_fraction.specs.Fraction.{Fraction, ◌*ℚ◌, ◌≤ℚ◌, whole, ratio, inverse}
-use Rattle.sil_fraction.specs.Sum.{total_below, sum_below}
+use Rattle.sil_fraction.specs.Fraction.{Fraction, ◌*ℚ◌, whole, ratio, inverse}
 use Rattle.sil_fraction.proofs.Laws.{mul_comm, mul_assoc, whole-mul}
 use Rattle.sil_fraction.proofs.Sums.{below-same, mul-below, whole-sum, mul-one, mul-zero}
 use Rattle.sil_model.specs.State.{is_up_of}

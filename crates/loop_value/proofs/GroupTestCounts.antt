@@ -1,5 +1,5 @@
 -- As many group tests stand in an hour as groups are tested in it.
-use Rattle.std.proofs.Common.{◌≡◌, ℕ, suc, ◌+◌, true, false, List, [], ◌∷◌, ◌++◌, length, cond, refl, ap, ◌∙◌, arith}
+use Rattle.std.proofs.Common.{◌≡◌, ℕ, suc, ◌+◌, true, false, List, [], ◌∷◌, ◌++◌, length, cond, refl, ap, arith}
 use Rattle.std.specs.Prelude.{Option, Some, None, filter}
 use Rattle.std.proofs.lemmas.List.{length-append}
 use Rattle.sil_model.specs.Budget.{tested_among, tested_from, group_tests_in}

@@ -7,3 +7,4 @@ pub mod Reached
 pub mod Printable
 pub mod Figures
 pub mod Starts
+pub mod Told

@@ -1,18 +1,16 @@
 -- From one phase of a mission to the next, and over the last one.
-use Rattle.std.proofs.Common.{◌≡◌, ℕ, suc, ◌+◌, ◌-◌, ◌*◌, ◌^◌, ◌<◌, ◌≤◌, List, [], length, sum, get_or, refl, sym, ap, subst, ◌∙◌, arith}
-use Rattle.std.specs.Prelude.{map, sum_by, All}
+use Rattle.std.proofs.Common.{◌≡◌, ℕ, suc, ◌+◌, ◌-◌, ◌*◌, ◌^◌, ◌<◌, ◌≤◌, List, [], length, sum, get_or, ap, ◌∙◌, arith}
+use Rattle.std.specs.Prelude.{map, All}
 use Rattle.std.proofs.Math.Nat.{mul-le-mul_right}
 use Rattle.std.proofs.lemmas.List.{get_or-map}
 use Rattle.std.proofs.lemmas.List.Sums.{get_or-le-sum_by}
 use Rattle.sil_fraction.specs.Fraction.{◌+ℚ◌, ◌*ℚ◌, ◌-ℚ◌, ◌≤ℚ◌, whole, ratio}
-use Rattle.sil_fraction.proofs.Laws.{whole-le, le_trans}
 use Rattle.sil_model.specs.Series.{Values}
 use Rattle.sil_model.specs.Budget.{beat_loss_of, test_loss_of, group_tests_in, group_tests_of}
 use Rattle.sil_model.specs.Calendar.{Phase, phases_of, test_hours_of, tests_at, beats_of}
 use Rattle.sil_model.specs.Figures.{no_phase}
 use Rattle.sil_model.specs.LoopValue.{LoopValue, IsValid}
 use Rattle.sil_model.specs.Sizes.{states_of, all_beats_of}
-use Rattle.sil_model.specs.declared.parts.Subsystem.{Subsystem}
 use Rattle.test_calendar.specs.GroupTests.{group_tests_at, spread_over}
 use Rattle.test_calendar.specs.declared.groups.GroupTest.{GroupTest}
 use Rattle.test_calendar.proofs.PhasesOfLoop.{length-phases_of}
@@ -21,11 +19,13 @@ use Rattle.vector_laws.specs.Vectors.{weigh}
 use Rattle.product_chain.specs.Kept.{ChainValue}
 use Rattle.test_matrix.specs.HourTests.{AreTestsOf, Exist}
 use Rattle.test_matrix.proofs.HourTests.{after_phase}
-use Rattle.mission_laws.specs.Losses.{hours_until, beats_until, group_tests_until, LosesInPhase, LosesAtTests, HasLost, HasLostInAll}
+use Rattle.mission_laws.specs.Losses.{hours_until, beats_until, group_tests_until, LosesInPhase, LosesAtTests, HasLostInAll}
 use Rattle.mission_laws.specs.Missions.{HasCounted}
 use Rattle.mission_laws.specs.UnderWay.{PassesPhase, PassesTests, IsUnderWay}
 use Rattle.mission_laws.proofs.Losses.{loses_next, loses_last, group_tests-more, group_tests-all, beats-more, beats-all}
 use Rattle.mission_laws.proofs.UnderWay.{next_phase, last_phase}
+use Rattle.phase_laws.specs.Laws.{PassesBeats}
+use Rattle.phase_laws.proofs.Arrived.{arrival_laws}
 use Rattle.loop_value.specs.Mission.{HasReached, greatest_of}
 use Rattle.loop_value.proofs.GroupTestCounts.{group_tests-count}
 use Rattle.loop_value.proofs.Rooms.{hours-within, beats-within}
@@ -56,9 +56,27 @@ module _ (l : LoopValue) (c : ChainValue) (h order order' hours beats : ℕ) (v 
     dwell_lack = rw (chain, is_beats, is_order) at dwell_lack;
   }
 
+  pub beaten : (mean : List ℕ) → ((n : ℕ) → order' ≤ n → (f : Values ℕ) → weigh mean f ≤ℚ weigh v (phase_mean_list c.of.subsystems n (ratio hours beats) beats f))
+      → ((n : ℕ) → order' ≤ n → (f : Values ℕ) → weigh v' f ≤ℚ weigh v (phase_list c.of.subsystems n (ratio hours beats) beats f))
+      → sum mean ≤ sum v → sum v' ≤ sum v
+      → sum v ≤ sum mean + beats * beat_loss_of c.of.subsystems order' + states_of c.of.subsystems
+      → sum v ≤ sum v' + beats * beat_loss_of c.of.subsystems order'
+      → PassesBeats l.subsystems order hours v mean v'
+  beaten mean means ends mean_kept kept mean_lack lack = record {
+    means = λ n o f. rw (chain, is_beats) at (means n (rw is_order o) f);
+    ends = λ n o f. rw (chain, is_beats) at (ends n (rw is_order o) f);
+    mean_mass = mean_kept;
+    end_mass = kept;
+    mean_lack = rw (chain, is_beats, is_order) at mean_lack;
+    end_lack = rw (chain, is_beats, is_order) at lack;
+  }
+
 -- the hours of a phase of the plan
 pub hours-at : (ps : List Phase) (l : LoopValue) (p hours : ℕ) → hours ≡ (get_or ps p no_phase).hours → ps ≡ phases_of l → hours ≡ (get_or (phases_of l) p no_phase).hours
 hours-at ps l p hours e same = rw same at e
+
+pub start-at : (ps : List Phase) (l : LoopValue) (p start : ℕ) → start ≡ (get_or ps p no_phase).start → ps ≡ phases_of l → start ≡ (get_or (phases_of l) p no_phase).start
+start-at ps l p start e same = rw same at e
 
 -- its beats are few
 pub few_beats : (l : LoopValue) (p hours most : ℕ) → p < length (phases_of l) → hours ≡ (get_or (phases_of l) p no_phase).hours → all_beats_of l ≤ most
@@ -129,6 +147,7 @@ module _ (l : LoopValue) (order p : ℕ) (more : suc p < length (phases_of l)) (
           lost = rw one at (loses_next l order p no_phase (omega (arith, more)) dwell v dwell' v' least most before.lost (rw is_hours at losses) w lo hi
               (group_tests_in l (get_or (test_hours_of l) p 0)) (group_tests-more l p 0 (few l p more ts are_tests)) lost);
           few = omega (arith, before.few, at_most_one);
+          arrived = (arrival_laws l).next order p v v' w more before.arrived (rw is_hours at phase).ends hour.ends;
         }
 
 -- the last phase

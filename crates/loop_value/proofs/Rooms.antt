@@ -1,14 +1,11 @@
 -- The hours and beats of a phase are within those of the mission, and so is the dwell before it.
-use Rattle.std.proofs.Common.{◌≡◌, ℕ, zero, suc, ◌+◌, ◌*◌, ◌^◌, ◌<◌, ◌≤◌, List, [], ◌∷◌, length, sum, get_or, take, refl, sym, ap, ◌∙◌, arith}
-use Rattle.std.specs.Prelude.{sum_by, All}
-use Rattle.std.proofs.Math.Nat.{mul-le-mul_right}
+use Rattle.std.proofs.Common.{ℕ, zero, suc, ◌+◌, ◌<◌, ◌≤◌, List, [], ◌∷◌, length, get_or, take, arith}
+use Rattle.std.specs.Prelude.{sum_by}
 use Rattle.std.proofs.lemmas.List.Sums.{sum_by-cons, get_or-le-sum_by}
-use Rattle.std.proofs.lemmas.List.Elements.{All-get_or}
 use Rattle.sil_model.specs.Calendar.{Phase, phases_of, beats_of}
-use Rattle.sil_model.specs.LoopValue.{LoopValue, IsValid, IsWithin}
+use Rattle.sil_model.specs.LoopValue.{LoopValue}
 use Rattle.sil_model.specs.Sizes.{all_beats_of}
-use Rattle.test_calendar.proofs.PhasesOfLoop.{phases_of_fill, phases_of_last}
-use Rattle.vector_laws.proofs.Masses.{place-le}
+use Rattle.test_calendar.proofs.PhasesOfLoop.{phases_of_fill}
 use Rattle.mission_laws.specs.Losses.{hours_until}
 
 -- a sum up to a place, and what stands there

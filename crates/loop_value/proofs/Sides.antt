@@ -1,8 +1,8 @@
 -- Sums over the places of a vector, place by place.
-use Rattle.std.proofs.Common.{◌≡◌, ℕ, suc, ◌+◌, ◌*◌, ◌≤◌, true, false, List, length, sum, get_or, refl, sym, ap, ◌∙◌, arith}
+use Rattle.std.proofs.Common.{◌≡◌, ℕ, ◌+◌, true, false, arith}
 use Rattle.std.specs.Prelude.{Bool, not, if◌then◌else◌}
 use Rattle.sil_fraction.specs.Sum.{sum_below}
-use Rattle.sil_fraction.proofs.Sums.{sum-next, sum-none}
+use Rattle.sil_fraction.proofs.Sums.{sum-next}
 
 -- a number counts on one of both sides
 pub if_up : (up : Bool) (x c : ℕ) → c ≡ (if up then x else 0) → c ≡ (if up then x else 0)

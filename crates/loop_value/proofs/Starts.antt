@@ -1,5 +1,5 @@
 -- The vector and the dwell at the start of a mission.
-use Rattle.std.proofs.Common.{◌≡◌, ℕ, zero, ◌+◌, ◌*◌, ◌^◌, ◌<◌, List, length, sum, get_or, set, replicate, refl, sym, ap, ◌∙◌, arith}
+use Rattle.std.proofs.Common.{◌≡◌, ℕ, ◌+◌, ◌^◌, ◌<◌, List, length, sum, get_or, set, replicate, refl, ap, ◌∙◌, arith}
 use Rattle.std.proofs.lemmas.List.{get_or-replicate, length-replicate}
 use Rattle.sil_fraction.specs.Fraction.{◌+ℚ◌, ◌*ℚ◌, whole}
 use Rattle.sil_fraction.proofs.Laws.{zero-add}
@@ -10,6 +10,7 @@ use Rattle.vector_laws.proofs.Masses.{sum-none, sum-more}
 use Rattle.vector_laws.proofs.Weighing.{weigh-none, weigh-more}
 use Rattle.mission_laws.proofs.Losses.{none_lost}
 use Rattle.mission_laws.proofs.UnderWay.{at_start}
+use Rattle.phase_laws.proofs.Arrived.{arrival_laws}
 use Rattle.loop_value.specs.Mission.{HasReached, greatest_of}
 
 module _ (size : ℕ) (some : 0 < size) where
@@ -38,4 +39,5 @@ module _ (size : ℕ) (some : 0 < size) where
     under_way = at_start l order (greatest_of l) blank (set blank 0 (2 ^ 48)) (weigh-none blank none) weighs_first;
     lost = none_lost l order blank (set blank 0 (2 ^ 48)) (sum-none blank none) sum_first;
     few = omega arith;
+    arrived = (arrival_laws l).first order (set blank 0 (2 ^ 48)) weighs_first;
   }

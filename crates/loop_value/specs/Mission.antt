@@ -16,6 +16,7 @@ use Rattle.lumped_laws.specs.StateOfCounts.{state_numbered}
 use Rattle.uniformise.specs.Beat.{beat_products}
 use Rattle.mission_laws.specs.Losses.{HasLost}
 use Rattle.mission_laws.specs.UnderWay.{IsUnderWay}
+use Rattle.phase_laws.specs.Arrived.{HasArrived}
 use Rattle.loop_value.specs.declared.mission.Machine.{Machine}
 use Rattle.loop_value.specs.declared.preparing.Prepared.{Prepared}
 
@@ -37,6 +38,7 @@ pub record HasReached (l : LoopValue) (order p : ℕ) (dwell v : List ℕ) (leas
   pub under_way : IsUnderWay l order (greatest_of l) p dwell v least (p * 2 ^ 48 - most)
   pub lost : HasLost l order p dwell v least most
   pub few : most ≤ p * 2 ^ 48
+  pub arrived : HasArrived l order p v
 
 -- the plan of a loop
 pub record IsPlanOf (l : LoopValue) (p : PlanValue) : Type 0 where

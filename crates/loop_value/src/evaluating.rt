@@ -1,6 +1,6 @@
 //! The figures of a loop.
 
-ghost use Rattle.std.specs.Prelude.{◌≡◌, ℕ, ◌+◌, ◌*◌, ◌^◌, ◌≤◌, ◌<◌, ◌↔◌, Bool, None, Some, length, slice_index, slice_index_or, IfOk, OnOk};
+ghost use Rattle.std.specs.Prelude.{◌≡◌, ℕ, ◌+◌, ◌*◌, ◌^◌, ◌≤◌, ◌<◌, ◌↔◌, Bool, None, Some, length, map, slice_index, slice_index_or, IfOk, OnOk, OnErr};
 ghost use Rattle.sil_fraction.specs.Fraction.{ratio};
 ghost use Rattle.sil_model.specs.Budget.{failure_rate_of, group_tests_of, pfd_width_of, pfh_width_of};
 ghost use Rattle.sil_model.specs.Calendar.{phases_of};
@@ -14,6 +14,7 @@ ghost use Rattle.lumped_laws.specs.PayList.{payoff_list};
 ghost use Rattle.lumped_laws.specs.StateOfCounts.{state_numbered};
 ghost use Rattle.uniformise.specs.Beat.{beat_products};
 ghost use Rattle.loop_value.specs.Mission.{IsOf, IsPlanOf, HasReached, test_products};
+ghost use Rattle.loop_value.specs.Records.{HasFed, HasFedInPart};
 ghost use Rattle.loop_value.specs.Sizes.{sizes_of, value_products};
 
 use crate::ends::{divide, pfh_interval, sides};
@@ -23,6 +24,7 @@ use crate::preparing::prepare;
 use entry_rates::failure_rate;
 use interval_fixed::{Interval, ONE};
 use sil_model::{Decimal18, LimitFault, Loop, Sizes, Steps, Value};
+use sil_watch::Watcher;
 use std::alloc::{AllocError, Global};
 use std::sync::ledger::Ledger;
 use test_calendar::Plan;
@@ -30,11 +32,16 @@ use test_calendar::Plan;
 /// PFDavg and PFH of a loop, each as an interval that holds the figure of every order of the series from the one given on, and
 /// that is no wider than the error budget allows.
 ///
-/// The limits are those of [`crate::measure`]. All memory is taken before the first beat.
+/// The limits are those of [`crate::measure`]. All memory but that of the watchers is taken before the first beat.
+///
+/// The watchers whose kind shares a bit with `asked` are fed a record of every phase, in order of the phases, and each before
+/// the next is made. If memory is wanting to one of them, the computation ends. Where none is asked for, no record is made.
 pub fn value<L: Ledger>(
     alloc: Global,
     l: &Loop,
     order: u8,
+    feed: &mut [Box<dyn Watcher>],
+    asked: u8,
     steps: &mut Steps<L>,
 ) -> Result<Value, ValueFault>
     requires least { 16 ≤ order }
@@ -56,12 +63,27 @@ pub fn value<L: Ledger>(
     ensures too_many_states { (n : ℕ) → (result ≡ Err (ValueFault.Limit (TooManyStates n))) ↔ (first_limit_of l.now order ≡ Some (TooManyStates n)) }
 
     ensures products { OnOk result (steps.new ≤ steps.old + value_products l.now order) }
+
+    // one list of records, one of each phase
+    ensures told { OnOk result (HasFed l.now order (length (phases_of l.now)) asked (map (λ w. watcher_value w) feed.old) (map (λ w. watcher_value w) feed.new)) }
+    ensures cut_short { (a : AllocError) → result ≡ Err (ValueFault.Memory a)
+        → HasFedInPart l.now order asked (map (λ w. watcher_value w) feed.old) (map (λ w. watcher_value w) feed.new) }
+    ensures nothing_told { (f : LimitFault) → result ≡ Err (ValueFault.Limit f) → map (λ w. watcher_value w) feed.new ≡ map (λ w. watcher_value w) feed.old }
 {
     let planned = match lay_out(alloc, l, order) {
         Ok(planned) => planned,
         Err(fault) => return Err(fault),
     };
-    match compute(alloc, l, &planned.plan, planned.sizes, order, steps) {
+    match compute(
+        alloc,
+        l,
+        &planned.plan,
+        planned.sizes,
+        order,
+        feed,
+        asked,
+        steps,
+    ) {
         Ok(value) => Ok(value),
         Err(fault) => Err(ValueFault::Memory(fault)),
     }
@@ -74,6 +96,8 @@ fn compute<L: Ledger>(
     plan: &Plan,
     sizes: Sizes,
     order: u8,
+    feed: &mut [Box<dyn Watcher>],
+    asked: u8,
     steps: &mut Steps<L>,
 ) -> Result<Value, AllocError>
     requires plan { IsPlanOf l.now plan.now }
@@ -91,6 +115,8 @@ fn compute<L: Ledger>(
     ensures beats { IfOk result (λ v. v.beats ≡ all_beats_of l.now) }
     ensures order { IfOk result (λ v. v.order ≡ order) }
     ensures products { OnOk result (steps.new ≤ steps.old + value_products l.now order) }
+    ensures told { OnOk result (HasFed l.now order (length (phases_of l.now)) asked (map (λ w. watcher_value w) feed.old) (map (λ w. watcher_value w) feed.new)) }
+    ensures refused { OnErr result (HasFedInPart l.now order asked (map (λ w. watcher_value w) feed.old) (map (λ w. watcher_value w) feed.new)) }
 {
     let mut parts = prepare(alloc, l, plan, order)?;
     let figures = evaluate(
@@ -102,8 +128,10 @@ fn compute<L: Ledger>(
         parts.v.as_mut_slice(),
         parts.mean.as_mut_slice(),
         parts.dwell.as_mut_slice(),
+        feed,
+        asked,
         steps,
-    );
+    )?;
     Ok(Value {
         pfd: figures.pfd,
         pfh: figures.pfh,
@@ -131,8 +159,10 @@ fn evaluate<L: Ledger>(
     v: &mut [u128],
     mean: &mut [u128],
     dwell: &mut [u128],
+    feed: &mut [Box<dyn Watcher>],
+    asked: u8,
     steps: &mut Steps<L>,
-) -> Figures
+) -> Result<Figures, AllocError>
     requires plan { IsPlanOf l.now plan.now }
     requires few_states { states_of l.now.subsystems ≤ most_states }
     requires few_beats { all_beats_of l.now ≤ most_beats }
@@ -147,17 +177,19 @@ fn evaluate<L: Ledger>(
     requires mean { length mean.old ≡ states_of l.now.subsystems }
     requires dwell { length dwell.old ≡ states_of l.now.subsystems }
     requires start { HasReached l.now machine.old.weights 0 dwell.old v.old 0 0 }
-    ensures pfd { (N : ℕ) → machine.old.weights ≤ N → Contains18 result.pfd.lo result.pfd.hi (pfd_of N l.now) }
-    ensures pfh { (N : ℕ) → machine.old.weights ≤ N → Contains18 result.pfh.lo result.pfh.hi (pfh_of N l.now) }
-    ensures pfd_width { result.pfd.hi ≤ result.pfd.lo + pfd_width_of l.now machine.old.weights }
-    ensures pfh_width { result.pfh.hi ≤ result.pfh.lo + pfh_width_of l.now machine.old.weights }
-    ensures products { steps.new ≤ steps.old + value_products l.now machine.old.weights }
+    ensures pfd { IfOk result (λ figures. (N : ℕ) → machine.old.weights ≤ N → Contains18 figures.pfd.lo figures.pfd.hi (pfd_of N l.now)) }
+    ensures pfh { IfOk result (λ figures. (N : ℕ) → machine.old.weights ≤ N → Contains18 figures.pfh.lo figures.pfh.hi (pfh_of N l.now)) }
+    ensures pfd_width { IfOk result (λ figures. figures.pfd.hi ≤ figures.pfd.lo + pfd_width_of l.now machine.old.weights) }
+    ensures pfh_width { IfOk result (λ figures. figures.pfh.hi ≤ figures.pfh.lo + pfh_width_of l.now machine.old.weights) }
+    ensures products { OnOk result (steps.new ≤ steps.old + value_products l.now machine.old.weights) }
+    ensures told { OnOk result (HasFed l.now machine.old.weights (length (phases_of l.now)) asked (map (λ w. watcher_value w) feed.old) (map (λ w. watcher_value w) feed.new)) }
+    ensures refused { OnErr result (HasFedInPart l.now machine.old.weights asked (map (λ w. watcher_value w) feed.old) (map (λ w. watcher_value w) feed.new)) }
 {
-    let passages = pass_mission(machine, l, plan, v, mean, dwell, steps);
+    let passages = pass_mission(machine, l, plan, up, v, mean, dwell, feed, asked, steps)?;
     divide(dwell, l.mission());
     let (down, above) = sides(dwell, up);
     let lack = ONE - down - above;
-    Figures {
+    Ok(Figures {
         pfd: Interval::from_parts(down, above).to_decimal18(),
         pfh: pfh_interval(
             dwell,
@@ -168,5 +200,5 @@ fn evaluate<L: Ledger>(
             passages,
             steps,
         ),
-    }
+    })
 }

@@ -7,6 +7,9 @@ mod measuring;
 mod mission;
 mod preparing;
 #[cfg(test)]
+mod record_tests;
+mod telling;
+#[cfg(test)]
 mod tests;
 
 pub use evaluating::value;

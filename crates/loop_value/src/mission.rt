@@ -1,23 +1,30 @@
 //! The mission of a loop: one vector pushed forward from phase to phase.
 
-ghost use Rattle.std.specs.Prelude.{◌≡◌, ℕ, suc, ◌+◌, ◌-◌, ◌*◌, ◌^◌, ◌<◌, ◌≤◌, length, All};
+ghost use Rattle.std.specs.Prelude.{◌≡◌, ℕ, suc, ◌+◌, ◌-◌, ◌*◌, ◌^◌, ◌<◌, ◌≤◌, Bool, length, map, slice_index_or, All, IfOk, OnOk, OnErr};
 ghost use Rattle.sil_model.specs.Budget.{beat_loss_of, group_tests_of};
 ghost use Rattle.sil_model.specs.Calendar.{phases_of, test_hours_of, beats_of};
 ghost use Rattle.sil_model.specs.LoopValue.{IsWithin};
 ghost use Rattle.sil_model.specs.Sizes.{states_of, all_beats_of, most_beats};
+ghost use Rattle.sil_model.specs.State.{is_up_of};
+ghost use Rattle.lumped_laws.specs.StateOfCounts.{state_numbered};
 ghost use Rattle.vector_laws.specs.Vectors.{IsMass};
 ghost use Rattle.mission_laws.specs.Losses.{LosesInPhase, HasLostInAll};
 ghost use Rattle.mission_laws.specs.Missions.{HasCounted};
 ghost use Rattle.mission_laws.specs.UnderWay.{PassesPhase};
+ghost use Rattle.phase_laws.specs.Laws.{PassesBeats};
 ghost use Rattle.uniformise.specs.Beat.{beat_products};
 ghost use Rattle.loop_value.specs.Mission.{IsOf, IsPlanOf, HasReached, greatest_of, phase_products, tests_products, test_products};
+ghost use Rattle.loop_value.specs.Records.{HasFed, HasFedInPart, HasFedPhase, HasFedPhaseInPart};
 
+use crate::telling::tell;
 use beat_ladder::{BlockRoom, Ladder};
 use lumping::Space;
 use phase_run::run_phase_by_ladder;
 use product_chain::Chain;
 use series_weights::Weights;
 use sil_model::{Loop, Steps};
+use sil_watch::Watcher;
+use std::alloc::AllocError;
 use std::sync::ledger::Ledger;
 use test_calendar::{Plan, beats_of};
 use test_matrix::Tests;
@@ -93,6 +100,7 @@ fn pass_phase<L: Ledger>(
     ensures passes { PassesPhase l.now.subsystems m.old.weights hours (beats_of l.now.subsystems hours) v.old v.new dwell.old dwell.new }
     ensures loses { LosesInPhase (beats_of l.now.subsystems hours * beat_loss_of l.now.subsystems m.old.weights) hours (states_of l.now.subsystems)
         v.old v.new dwell.old dwell.new }
+    ensures beats { PassesBeats l.now.subsystems m.old.weights hours v.old mean.new v.new }
     ensures steps { steps.new ≤ steps.old + beats_of l.now.subsystems hours * beat_products l.now.subsystems m.old.weights }
 {
     let beats = beats_of(l, hours);
@@ -112,67 +120,89 @@ fn pass_phase<L: Ledger>(
     );
 }
 
-/// The phase `p`, which is not the last, and the tests of the hour that ends it.
+/// The phase `p`, which is not the last, and the tests of the hour that ends it. In between, the watchers that are asked for are
+/// told of the phase.
 fn pass_to_next<L: Ledger>(
     m: &mut Machine,
     l: &Loop,
     plan: &Plan,
     p: usize,
+    up: &[bool],
     v: &mut [u128],
     mean: &mut [u128],
     dwell: &mut [u128],
     before: Passages,
+    feed: &mut [Box<dyn Watcher>],
+    asked: u8,
     steps: &mut Steps<L>,
-) -> Passages
+) -> Result<Passages, AllocError>
     requires plan { IsPlanOf l.now plan.now }
     requires few { all_beats_of l.now ≤ most_beats }
     requires more { suc p < length (phases_of l.now) }
     requires parts { IsOf l.now m.old }
+    requires order { 16 ≤ m.old.weights }
+    requires up_length { length up.now ≡ states_of l.now.subsystems }
+    requires up { (i : ℕ) (d : Bool) → i < states_of l.now.subsystems → slice_index_or up.now i d ≡ is_up_of l.now.subsystems (state_numbered l.now.subsystems i) }
     requires v { length v.old ≡ states_of l.now.subsystems }
     requires mean { length mean.old ≡ states_of l.now.subsystems }
     requires dwell { length dwell.old ≡ states_of l.now.subsystems }
     requires reached { HasReached l.now m.old.weights p dwell.old v.old before.least before.most }
-    ensures parts { IsOf l.now m.new }
-    ensures weights { m.new.weights ≡ m.old.weights }
-    ensures reached { HasReached l.now m.old.weights (suc p) dwell.new v.new result.least result.most }
-    ensures steps { steps.new ≤ steps.old + phase_products l.now m.old.weights p + tests_products l.now p }
+    ensures parts { OnOk result (IsOf l.now m.new) }
+    ensures weights { OnOk result (m.new.weights ≡ m.old.weights) }
+    ensures reached { IfOk result (λ after. HasReached l.now m.old.weights (suc p) dwell.new v.new after.least after.most) }
+    ensures told { OnOk result (HasFedPhase l.now m.old.weights p asked (map (λ w. watcher_value w) feed.old) (map (λ w. watcher_value w) feed.new)) }
+    ensures refused { OnErr result (HasFedPhaseInPart l.now m.old.weights p asked (map (λ w. watcher_value w) feed.old) (map (λ w. watcher_value w) feed.new)) }
+    ensures steps { OnOk result (steps.new ≤ steps.old + phase_products l.now m.old.weights p + tests_products l.now p) }
 {
     pass_phase(m, l, plan.hours(p), v, mean, dwell, steps);
+    tell(l, plan, p, up, mean, v, feed, asked)?;
     let passed = m.tests.apply(plan.tests_after(p), v, steps);
-    Passages {
+    Ok(Passages {
         least: before.least + passed.lo,
         most: before.most + passed.hi,
-    }
+    })
 }
 
-/// All phases, and the tests between them. `v` stands at the start, and the dwell is 0.
+/// All phases, and the tests between them. `v` stands at the start, and the dwell is 0. The watchers that are asked for are told
+/// of every phase.
 pub fn pass_mission<L: Ledger>(
     m: &mut Machine,
     l: &Loop,
     plan: &Plan,
+    up: &[bool],
     v: &mut [u128],
     mean: &mut [u128],
     dwell: &mut [u128],
+    feed: &mut [Box<dyn Watcher>],
+    asked: u8,
     steps: &mut Steps<L>,
-) -> Passages
+) -> Result<Passages, AllocError>
     requires plan { IsPlanOf l.now plan.now }
     requires few { all_beats_of l.now ≤ most_beats }
     requires parts { IsOf l.now m.old }
+    requires order { 16 ≤ m.old.weights }
+    requires up_length { length up.now ≡ states_of l.now.subsystems }
+    requires up { (i : ℕ) (d : Bool) → i < states_of l.now.subsystems → slice_index_or up.now i d ≡ is_up_of l.now.subsystems (state_numbered l.now.subsystems i) }
     requires v { length v.old ≡ states_of l.now.subsystems }
     requires mean { length mean.old ≡ states_of l.now.subsystems }
     requires dwell { length dwell.old ≡ states_of l.now.subsystems }
     requires start { HasReached l.now m.old.weights 0 dwell.old v.old 0 0 }
-    ensures counted { (n : ℕ) → m.old.weights ≤ n
-        → HasCounted l.now (greatest_of l.now) n dwell.new result.least (length (test_hours_of l.now) * 2 ^ 48 - result.most) }
-    ensures lost { HasLostInAll l.now m.old.weights dwell.new result.least result.most }
-    ensures few { result.most ≤ length (test_hours_of l.now) * 2 ^ 48 }
-    ensures steps { steps.new ≤ steps.old + all_beats_of l.now * beat_products l.now.subsystems m.old.weights + group_tests_of l.now * test_products l.now.subsystems }
+    ensures counted { IfOk result (λ passages. (n : ℕ) → m.old.weights ≤ n
+        → HasCounted l.now (greatest_of l.now) n dwell.new passages.least (length (test_hours_of l.now) * 2 ^ 48 - passages.most)) }
+    ensures lost { IfOk result (λ passages. HasLostInAll l.now m.old.weights dwell.new passages.least passages.most) }
+    ensures few { IfOk result (λ passages. passages.most ≤ length (test_hours_of l.now) * 2 ^ 48) }
+    ensures told { OnOk result (HasFed l.now m.old.weights (length (phases_of l.now)) asked (map (λ w. watcher_value w) feed.old) (map (λ w. watcher_value w) feed.new)) }
+    ensures refused { OnErr result (HasFedInPart l.now m.old.weights asked (map (λ w. watcher_value w) feed.old) (map (λ w. watcher_value w) feed.new)) }
+    ensures steps { OnOk result (steps.new ≤ steps.old + all_beats_of l.now * beat_products l.now.subsystems m.old.weights + group_tests_of l.now * test_products l.now.subsystems) }
 {
     let last = plan.phases() - 1;
     let mut passages = Passages { least: 0, most: 0 };
     for p in 0..last {
-        passages = pass_to_next(m, l, plan, p, v, mean, dwell, passages, steps);
+        passages = pass_to_next(
+            m, l, plan, p, up, v, mean, dwell, passages, feed, asked, steps,
+        )?;
     }
     pass_phase(m, l, plan.hours(last), v, mean, dwell, steps);
-    passages
+    tell(l, plan, last, up, mean, v, feed, asked)?;
+    Ok(passages)
 }

@@ -12,6 +12,7 @@ use loop_value::{ValueFault, value};
 use sil_bands::{meets, pfd_band, pfh_band};
 use sil_model::{Band, Loop, Steps};
 use sil_report::{limit_fault_text, report};
+use sil_watch::Watcher;
 use sil_words::{Ask, Mode};
 use std::alloc::{AllocError, Global};
 use std::marker::Brand;
@@ -41,7 +42,9 @@ fn evaluate<L: Ledger>(
     // The values of a loop are in their ranges.
     let _ = l.mission();
     let mut steps = Steps::<L>::open(blank);
-    match value(alloc, l, l.order(), &mut steps) {
+    // No watcher is told of the phases.
+    let mut nobody: [Box<dyn Watcher>; 0] = [];
+    match value(alloc, l, l.order(), &mut nobody, 0, &mut steps) {
         Ok(value) => Ok(Answer {
             status: status_of(ask.need, ask.mode, pfd_band(value.pfd), pfh_band(value.pfh)),
             text: report(alloc, l, &value)?,

@@ -1,7 +1,7 @@
-use Rattle.std.proofs.Common.{◌≡◌, ◌+◌, ◌*◌, ◌/◌, ◌%◌, ◌^◌, length, get_or, refl, sym, ap, ◌∙◌, arith}
+use Rattle.std.proofs.Common.{◌≡◌, ◌+◌, ◌*◌, ◌^◌, length, get_or, refl, sym, ap, ◌∙◌, arith}
 use Rattle.std.proofs.Math.Nat.{div-add-mod}
 use Rattle.sil_fraction.specs.Sum.{sum_below}
-use Rattle.sil_fraction.proofs.Sums.{sum-none, sum-next}
+use Rattle.sil_fraction.proofs.Sums.{sum-none}
 use Rattle.loop_value.proofs.Sides.{next_place}
 use Rattle.loop_value.proofs.ends.entries.Goals as goal
 

@@ -1,4 +1,4 @@
-use Rattle.std.proofs.Common.{◌≡◌, ◌+◌, ◌*◌, ◌/◌, ◌^◌, ◌≤◌, ◌<◌, sum, get_or, refl, sym, ap, ◌∙◌, arith}
+use Rattle.std.proofs.Common.{◌≡◌, ◌+◌, ◌*◌, ◌/◌, ◌^◌, sum, ap, ◌∙◌, arith}
 use Rattle.sil_model.specs.Calendar.{ceiling}
 use Rattle.interval_fixed.proofs.Rounding.{div_ceil-ceiling}
 use Rattle.loop_value.specs.Ends.{entries_of}

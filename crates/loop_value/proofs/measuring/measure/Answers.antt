@@ -1,4 +1,3 @@
-use Rattle.std.proofs.Common.{◌≡◌}
 use Rattle.loop_value.proofs.measuring.measure.Goals as goal
 
 -- the same fault

@@ -1,16 +1,16 @@
-use Rattle.std.proofs.Common.{◌≡◌, ◌+◌, ◌*◌, ◌≤◌, ◌<◌, ℕ, suc, [], length, get_or, List, ap, ◌∙◌, arith}
+use Rattle.std.proofs.Common.{◌≡◌, ◌*◌, [], get_or, List, ap, ◌∙◌, arith}
 use Rattle.std.specs.Prelude.{map}
-use Rattle.sil_model.specs.Calendar.{Phase, phases_of, test_hours_of, beats_of}
+use Rattle.sil_model.specs.Calendar.{phases_of, test_hours_of, beats_of}
 use Rattle.sil_model.specs.Figures.{no_phase}
-use Rattle.sil_model.specs.Budget.{group_tests_in}
 use Rattle.sil_model.specs.LoopValue.{LoopValue}
 use Rattle.test_calendar.specs.declared.groups.GroupTest.{GroupTest}
 use Rattle.test_calendar.specs.GroupTests.{group_tests_at}
-use Rattle.test_matrix.specs.declared.whole.Passed.{Passed}
 use Rattle.test_matrix.specs.HourTests.{Exist}
 use Rattle.uniformise.specs.Beat.{beat_products}
 use Rattle.loop_value.specs.Mission.{test_products}
 use Rattle.loop_value.proofs.Reached.{hours-at, few_beats, roomy, reached_next, exist_tests, counted_tests}
+use Rattle.sil_watch.proofs.Lists.{on_error}
+use Rattle.loop_value.proofs.Told.{passed}
 use Rattle.loop_value.proofs.mission.pass_to_next.Goals as goal
 
 pub pass_phase-requires-clause-few : goal.pass_phase-requires-clause-few
@@ -56,3 +56,17 @@ returns-clause-steps g c =
       ap (λ h. beats_of c.args.l.now.subsystems h * beat_products c.args.l.now.subsystems c.args.m.now.weights) hours,
       ap (λ n. n * test_products c.args.l.now.subsystems) (counted_tests c.args.l.now c.args.p c.requires.more c.tests_after.result.now tests),
     )
+
+pub returns-clause-told : goal.returns-clause-told
+returns-clause-told g c =
+    c.in_ok-tell.ensures.told c.args.m.now.weights c.requires.order
+    (passed c.args.l.now c.args.m.now.weights c.args.p c.hours.result c.args.before.least c.args.before.most c.args.dwell.now c.args.v.now c.pass_phase.new.mean c.pass_phase.new.v
+    (omega (arith, c.requires.more)) (hours-at c.args.plan.now.phases c.args.l.now c.args.p c.hours.result (c.hours.ensures.hours no_phase) c.requires.plan.phases)
+    c.requires.reached c.pass_phase.ensures.beats)
+
+pub returns-in_err-tell-clause-refused : goal.returns-in_err-tell-clause-refused
+returns-in_err-tell-clause-refused g c =
+    on_error c.from_residual.result (c.in_err-tell.ensures.refused c.args.m.now.weights c.requires.order
+    (passed c.args.l.now c.args.m.now.weights c.args.p c.hours.result c.args.before.least c.args.before.most c.args.dwell.now c.args.v.now c.pass_phase.new.mean c.pass_phase.new.v
+    (omega (arith, c.requires.more)) (hours-at c.args.plan.now.phases c.args.l.now c.args.p c.hours.result (c.hours.ensures.hours no_phase) c.requires.plan.phases)
+    c.requires.reached c.pass_phase.ensures.beats))

@@ -1,4 +1,4 @@
-use Rattle.std.proofs.Common.{◌≡◌, ◌<◌, length, List, ap, ◌∙◌, arith}
+use Rattle.std.proofs.Common.{◌≡◌, length, List, ap, arith}
 use Rattle.sil_model.specs.Calendar.{Phase, phases_of}
 use Rattle.sil_model.specs.Figures.{no_phase}
 use Rattle.test_calendar.proofs.PhasesOfLoop.{length-phases_of}

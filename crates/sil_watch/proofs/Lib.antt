@@ -1,0 +1,4 @@
+pub mod SeriesLines
+pub mod FixedBy
+pub mod Lists
+pub mod Folds

@@ -1,0 +1,5 @@
+pub mod Watching
+pub mod Records
+pub mod Lines
+pub mod Series
+pub mod FixedBy

@@ -1,0 +1,21 @@
+//! Watchers of a mission: each is fed a record of every phase, and tells its lines afterwards.
+//!
+//! - [`PhaseRecord`] is what is computed of one phase: where it lies, and the chance that the loop is down, over it and at
+//!   its end.
+//! - [`Watcher`] is what may be fed such records. A watcher has a state, a list of whole numbers; its rule makes the next state
+//!   of a state and a record; its lines are those of its state.
+//! - [`Series`] keeps all records, and has a line for each.
+#![tactic(auto)]
+
+mod feeding;
+mod record;
+mod series;
+mod watcher;
+
+pub use feeding::{any_asked, feed, is_asked};
+pub use record::PhaseRecord;
+pub use series::{Series, lines_fix_records};
+pub use watcher::Watcher;
+
+#[cfg(test)]
+mod tests;
