@@ -21,6 +21,9 @@ use uniformise::Workspace;
 /// About how many products a ladder takes for each beat of its greatest rung.
 const LADDER_PRODUCTS: u64 = 64;
 
+/// Below so many states at all beats, a mission is over as soon as a ladder is made.
+const SMALL_WORK: u64 = 16_384;
+
 /// All that the computation of a loop needs. Vectors have a number for each count vector, in units of 2^-48.
 #[derive(Drop)]
 pub struct Prepared {
@@ -132,7 +135,7 @@ fn machine(
 /// Up to how many beats the blocks of a ladder go. The figures are true with any.
 ///
 /// No block is longer than the longest phase. And where the mission is short or its states are few, greater blocks would take
-/// longer to make than they save.
+/// longer to make than they save; in the smallest missions there are none.
 fn beats_of_ladder(l: &Loop, plan: &Plan, states: usize) -> u64
     requires plan { IsPlanOf l.now plan.now }
 {
@@ -143,5 +146,9 @@ fn beats_of_ladder(l: &Loop, plan: &Plan, states: usize) -> u64
         longest = beats.max(longest);
         all = all.saturating_add(beats);
     }
-    longest.min(all.saturating_mul(states as u64) / LADDER_PRODUCTS)
+    let work = all.saturating_mul(states as u64);
+    if work < SMALL_WORK {
+        return 0;
+    }
+    longest.min(work / LADDER_PRODUCTS)
 }
