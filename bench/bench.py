@@ -61,7 +61,7 @@ def reached(lumped):
 
 def counted(path):
     lumped = Lumped(read_loop(path))
-    ladder = Ladder(max(beats for _, beats in lumped.phases))
+    ladder = Ladder(lumped)
     beat = (1, 0, series_weights(lumped.loop.order)[0])
     size, ways = reached(lumped)
     ticks = products = 0

@@ -18,6 +18,8 @@ from loop_reader import Refused, read_loop
 ONE = 1 << 48
 # The greatest block has 2^12 beats; the numbers of a block lack at most so much for each beat, and their tails for each pair.
 LAST_RUNG, MOST_MISSING = 12, 200
+# Below so many states at all beats no block is made, and none of more beats than one for each so many of them.
+SMALL_WORK, BLOCK_WORK = 16_384, 64
 WORK, HIDDEN, DEEP, REPAIR = range(4)
 PFD_BANDS = ((10**17, "no SIL"), (10**16, "SIL 1"), (10**15, "SIL 2"), (10**14, "SIL 3"), (10**13, "SIL 4"))
 PFH_BANDS = tuple((lower // 10**4, name) for lower, name in PFD_BANDS)
@@ -49,10 +51,12 @@ def series_weights(order):
 class Ladder:
     """The numbers of 2, 4, 8, .. beats at once: of k ticks `numbers[k - low]`, each list the square of the one before it."""
 
-    def __init__(self, beats):
+    def __init__(self, lumped):
         numbers, low, self.rungs = series_weights(16)[0], 0, []
+        work, longest = lumped.beats * lumped.state_count, max(beats for _, beats in lumped.phases)
+        greatest = min(longest, work // BLOCK_WORK) if work >= SMALL_WORK else 0
         for exponent in range(1, LAST_RUNG + 1):
-            if beats < 1 << exponent:
+            if greatest < 1 << exponent:
                 break
             numbers, low = self.squared(numbers), 2 * low
             first = next(k for k, x in enumerate(numbers) if x)
@@ -171,7 +175,7 @@ class Mission:
         self.loop = loop
         self.lumped = lumped = Lumped(loop)
         self.ends, self.means, self.missing = series_weights(loop.order)
-        self.ladder = Ladder(max(beats for _, beats in lumped.phases))
+        self.ladder = Ladder(lumped)
         self.reach()
         self.up = [lumped.is_up(state) for state in self.states]
         self.entry = [sum(steps for target, steps, _ in events if not self.up[self.numbers[target]]) if up else 0
