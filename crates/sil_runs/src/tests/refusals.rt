@@ -12,6 +12,7 @@ const REFUSED: &str = r#"'1.0E-6'|1e-6||wrong kind subsystem[0].du
 1.0E-6|0.0011||text subsystem[0].du too large
 1.0E-6|1E||text subsystem[0].du not a decimal
 1oo1|3oo2||vote subsystem[0].vote
+[[subsystem]];name = 'sif';vote = '1oo1';du = '1.0E-6';repair = 8|subsystem = []||out of range subsystem
 ||[[subsystem]];name = "sif"|same name subsystem[1].name
 version = 1|version = 7||version 7
 version = 1|version = "1"||wrong kind version
@@ -45,7 +46,8 @@ fn refused_files(rt: HostRuntime) -> Result<(), Fail> {
         let (part, rest) = row.split_once('|').ok_or("no part")?;
         let (by, rest) = rest.split_once('|').ok_or("no change")?;
         let (more, fault) = rest.split_once('|').ok_or("no fault")?;
-        let file = lines_of(alloc, changed(alloc, part, by, more)?.as_str())?;
+        let part = lines_of(alloc, part)?;
+        let file = lines_of(alloc, changed(alloc, part.as_str(), by, more)?.as_str())?;
         let line = format!(in alloc; "refused: {fault}\n")?;
         for words in ["check loop.toml --need 4", "size loop.toml"] {
             let (status, text) = ran(alloc, words, file.as_bytes())?;
