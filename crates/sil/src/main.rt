@@ -2,30 +2,29 @@
 #![tactic(auto)]
 
 use sil_io::{FileShelf, OutSink};
-use sil_top::run;
+use sil_top::{Status, run};
 use std::io::ErrorKind;
 use std::process::ExitCode;
-
-/// The exit status where memory is wanting before the run begins.
-const MEMORY: u8 = 6;
-
-/// The exit status where the words are refused before the run begins, as where they are not UTF-8.
-const USAGE: u8 = 2;
 
 fn main(rt: HostRuntime) -> ExitCode {
     let all = match std::env::args(&rt) {
         Ok(all) => all,
-        Err(e) if e.kind() == ErrorKind::OutOfMemory => return ExitCode::from(MEMORY),
-        Err(_) => return ExitCode::from(USAGE),
+        Err(e) if e.kind() == ErrorKind::OutOfMemory => return exit_code(Status::Memory),
+        // The words are not UTF-8.
+        Err(_) => return exit_code(Status::Usage),
     };
     let mut words: Vec<String> = Vec::new(rt.alloc());
     for word in all.skip(1) {
         if words.push(word).is_err() {
-            return ExitCode::from(MEMORY);
+            return exit_code(Status::Memory);
         }
     }
     let mut shelf = FileShelf::new(&rt);
     let mut sink = OutSink::new(&rt);
-    let status = run(rt.alloc(), &words, &mut shelf, &mut sink);
+    exit_code(run(rt.alloc(), &words, &mut shelf, &mut sink))
+}
+
+/// The exit status of the program is the number of its status.
+fn exit_code(status: Status) -> ExitCode {
     ExitCode::from(status as u8)
 }

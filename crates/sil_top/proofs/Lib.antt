@@ -1,2 +1,3 @@
+pub mod Bands
 pub mod Reports
-pub mod Handed
+pub mod Told

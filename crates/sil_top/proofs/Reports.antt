@@ -1,5 +1,5 @@
 -- A report of true figures, and what a report fixes.
-use Rattle.std.proofs.Common.{◌≡◌, ℕ, ◌+◌, ◌<◌, ◌≤◌, ◌^◌, List, [], ◌++◌, length, sym, ap, ◌∙◌, arith, append-nil}
+use Rattle.std.proofs.Common.{◌≡◌, ℕ, ◌+◌, ◌≤◌, List, [], ◌++◌, length, refl, sym, ap, ◌∙◌, arith, if◌then◌else◌}
 use Rattle.std.specs.Prelude.{codes, None}
 use Rattle.std.proofs.lemmas.List.{append_cancel_left}
 use Rattle.sil_model.specs.LoopValue.{LoopValue, IsValid}
@@ -7,53 +7,77 @@ use Rattle.sil_model.specs.Budget.{pfd_width_of, pfh_width_of}
 use Rattle.sil_model.specs.Calendar.{phases_of}
 use Rattle.sil_model.specs.Sizes.{states_of, all_beats_of, first_limit_of}
 use Rattle.sil_model.specs.Figures.{pfd_of, pfh_of, Contains18}
+use Rattle.sil_model.specs.Bands.{IsBandOf, pfd_edge, pfh_edge}
+use Rattle.sil_model.specs.declared.answers.Band.{Band}
 use Rattle.sil_model.specs.declared.answers.Value.{Value}
 use Rattle.limit_laws.specs.Exact.Figure.{Pfd, Pfh}
 use Rattle.limit_laws.proofs.Figures.{exact_inside}
-use Rattle.sil_report.specs.FixedBy.{Interval, Counts, AreWritableEnds, lines_of_counts, line_of_interval}
+use Rattle.sil_report.specs.FixedBy.{AreWritableEnds, lines_of_counts, line_of_interval}
 use Rattle.sil_report.specs.Reports.{report_lines, IsReport}
 use Rattle.sil_report.proofs.FixedBy.{lines_fix_numbers}
-use Rattle.sil_top.specs.Report.{counts_of, IsTrueOf, IsTrueReport, ReportsFixFigures}
+use Rattle.sil_words.specs.declared.ask.Ask.{Ask}
+use Rattle.sil_top.specs.Report.{counts_of, IsTrueReport, ReportsFixFigures}
+use Rattle.sil_top.specs.Run.{Outcome, IsReported, is_shown}
+use Rattle.sil_top.specs.declared.Status.TheVariants.{Done, NotShown}
+use Rattle.sil_top.proofs.Bands.{one_band}
+
+-- the true report of a value, with the bands that its text has
+record ReportOf (l : LoopValue) (v : Value) (text : List ℕ) (is : IsReport l.mission v text) : Type 0 where
+  report : IsTrueReport l text
+  pfd_band : report.pfd.band ≡ is.pfd_band
+  pfh_band : report.pfh.band ≡ is.pfh_band
 
 -- a value of true figures has a true report
-pub true_report : (l : LoopValue) → IsValid l → first_limit_of l l.order ≡ None → (v : Value) (text : List ℕ) → IsReport l.mission v text
+true_report : (l : LoopValue) → IsValid l → first_limit_of l l.order ≡ None → (v : Value) (text : List ℕ) (is : IsReport l.mission v text)
     → ((N : ℕ) → l.order ≤ N → Contains18 v.pfd.lo v.pfd.hi (pfd_of N l)) → ((N : ℕ) → l.order ≤ N → Contains18 v.pfh.lo v.pfh.hi (pfh_of N l))
     → v.pfd.hi ≤ v.pfd.lo + pfd_width_of l l.order → v.pfh.hi ≤ v.pfh.lo + pfh_width_of l l.order
     → v.phases ≡ length (phases_of l) → v.states ≡ states_of l.subsystems → v.beats ≡ all_beats_of l → v.order ≡ l.order
-    → IsTrueReport l text
+    → ReportOf l v text is
 true_report l valid within v text is pfd pfh narrow_pfd narrow_pfh phases states beats order = record {
-  within = within;
-  pfd = record { lo = v.pfd.lo; hi = v.pfd.hi; band = is.pfd_band };
-  pfh = record { lo = v.pfh.lo; hi = v.pfh.hi; band = is.pfh_band };
-  printed = rw (phases, states, beats, order) at is.printed;
-  true_pfd = record {
-    ordered = v.pfd.ordered;
-    printable = v.pfd.printable;
-    encloses = pfd;
-    exact = exact_inside Pfd l valid l.order v.pfd.lo v.pfd.hi pfd;
-    narrow = narrow_pfd;
-    is_band = is.is_pfd;
+  report = record {
+    within = within;
+    pfd = record { lo = v.pfd.lo; hi = v.pfd.hi; band = is.pfd_band };
+    pfh = record { lo = v.pfh.lo; hi = v.pfh.hi; band = is.pfh_band };
+    printed = rw (phases, states, beats, order) at is.printed;
+    true_pfd = record {
+      ordered = v.pfd.ordered;
+      printable = v.pfd.printable;
+      encloses = pfd;
+      exact = exact_inside Pfd l valid l.order v.pfd.lo v.pfd.hi pfd;
+      narrow = narrow_pfd;
+      is_band = is.is_pfd;
+    };
+    true_pfh = record {
+      ordered = v.pfh.ordered;
+      printable = v.pfh.printable;
+      encloses = pfh;
+      exact = exact_inside Pfh l valid l.order v.pfh.lo v.pfh.hi pfh;
+      narrow = narrow_pfh;
+      is_band = is.is_pfh;
+    };
   };
-  true_pfh = record {
-    ordered = v.pfh.ordered;
-    printable = v.pfh.printable;
-    encloses = pfh;
-    exact = exact_inside Pfh l valid l.order v.pfh.lo v.pfh.hi pfh;
-    narrow = narrow_pfh;
-    is_band = is.is_pfh;
-  };
+  pfd_band = refl;
+  pfh_band = refl;
 }
 
--- the same where the order is known by another name
-pub true_report_at : (l : LoopValue) → IsValid l → (order : ℕ) → order ≡ l.order → first_limit_of l order ≡ None → (v : Value) (text : List ℕ)
-    → IsReport l.mission v text
+-- a true report under the status of its bands, which are those of the value, where the order is known by another name
+pub reported : (a : Ask) (l : LoopValue) → IsValid l → (order : ℕ) → order ≡ l.order → first_limit_of l order ≡ None → (v : Value) (o : Outcome)
+    → IsReport l.mission v o.text
     → ((N : ℕ) → order ≤ N → Contains18 v.pfd.lo v.pfd.hi (pfd_of N l)) → ((N : ℕ) → order ≤ N → Contains18 v.pfh.lo v.pfh.hi (pfh_of N l))
     → v.pfd.hi ≤ v.pfd.lo + pfd_width_of l order → v.pfh.hi ≤ v.pfh.lo + pfh_width_of l order
     → v.phases ≡ length (phases_of l) → v.states ≡ states_of l.subsystems → v.beats ≡ all_beats_of l → v.order ≡ order
-    → IsTrueReport l text
-true_report_at l valid order same within v text is pfd pfh narrow_pfd narrow_pfh phases states beats is_order =
-    true_report l valid (rw same at within) v text is (rw same at pfd) (rw same at pfh) (rw same at narrow_pfd) (rw same at narrow_pfh)
-    phases states beats (is_order ∙ same)
+    → (pfd pfh : Band) → IsBandOf pfd_edge v.pfd.lo v.pfd.hi pfd → IsBandOf pfh_edge v.pfh.lo v.pfh.hi pfh
+    → o.status ≡ (if is_shown a.need a.mode pfd pfh then Done else NotShown) → IsReported a l o
+reported a l valid order same within v o is in_pfd in_pfh narrow_pfd narrow_pfh phases states beats is_order pfd pfh is_pfd is_pfh status =
+    let r = true_report l valid (rw same at within) v o.text is (rw same at in_pfd) (rw same at in_pfh) (rw same at narrow_pfd) (rw same at narrow_pfh)
+    phases states beats (is_order ∙ same) in
+    let first : pfd ≡ r.report.pfd.band = one_band pfd_edge v.pfd.lo v.pfd.hi pfd is.pfd_band is_pfd is.is_pfd ∙ sym r.pfd_band in
+    let second : pfh ≡ r.report.pfh.band = one_band pfh_edge v.pfh.lo v.pfh.hi pfh is.pfh_band is_pfh is.is_pfh ∙ sym r.pfh_band in
+    record {
+      report = r.report;
+      status = status ∙ ap (λ (b : Band). if is_shown a.need a.mode b pfh then Done else NotShown) first
+          ∙ ap (λ (b : Band). if is_shown a.need a.mode r.report.pfd.band b then Done else NotShown) second;
+    }
 
 -- the intervals are read back from the last two lines
 module _ (l : LoopValue) (text : List ℕ) (a b : IsTrueReport l text) where

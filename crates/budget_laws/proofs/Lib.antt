@@ -1,0 +1,3 @@
+pub mod Within
+pub mod Few
+pub mod Small

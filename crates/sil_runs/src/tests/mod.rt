@@ -1,0 +1,80 @@
+//! The texts and the statuses of whole runs.
+
+mod drawn;
+mod faults;
+mod files;
+mod lines;
+mod refusals;
+mod reports;
+mod sizes;
+
+use sil_io::{MemShelf, MemSink};
+use sil_top::{Status, run};
+use std::alloc::{AllocError, Global};
+use std::test::Fail;
+
+/// One channel without tests, for a year.
+const ONE_CHANNEL: &str =
+    "version = 1\nmission = 8760\n[[subsystem]]\nname = 'sif'\nvote = '1oo1'\ndu = '1.0E-6'\nrepair = 8\n";
+
+/// Room for the text of every run here.
+const ROOM: usize = 4000;
+
+/// The words of a line, which blanks separate.
+fn words_of(alloc: Global, line: &str) -> Result<Vec<String>, AllocError> {
+    let mut words = Vec::new(alloc);
+    for word in line.split_whitespace() {
+        words.push(String::from_str(alloc, word)?)?;
+    }
+    Ok(words)
+}
+
+/// The status and the text of a run over this shelf, into a sink that fails after so many bytes.
+fn ran_over(
+    alloc: Global,
+    line: &str,
+    shelf: &mut MemShelf,
+    fail_after: usize,
+) -> Result<(Status, String), Fail> {
+    let mut sink = MemSink::new(alloc, ROOM)?;
+    sink.fail_after(fail_after);
+    let words = words_of(alloc, line)?;
+    let status = run(alloc, &words, shelf, &mut sink);
+    let text = std::str::from_utf8(sink.bytes()).map_err(|_| "no text")?;
+    Ok((status, String::from_str(alloc, text)?))
+}
+
+/// The status and the text of a run over a shelf that holds one file, `loop.toml`.
+fn ran(alloc: Global, line: &str, file: &[u8]) -> Result<(Status, String), Fail> {
+    let mut shelf = MemShelf::new(alloc);
+    shelf.put("loop.toml", file)?;
+    ran_over(alloc, line, &mut shelf, ROOM)
+}
+
+/// A text whose lines end with `;` here.
+fn lines_of(alloc: Global, text: &str) -> Result<String, AllocError> {
+    text.replace(alloc, ";", "\n")
+}
+
+/// The file of one channel with some of its text replaced, and with more text at its end.
+fn changed(alloc: Global, part: &str, by: &str, more: &str) -> Result<String, AllocError> {
+    let mut file = ONE_CHANNEL.replacen(alloc, part, by, 1)?;
+    file.push_str(more)?;
+    Ok(file)
+}
+
+/// The exit status of the program is the number of its status.
+#[test]
+fn exit_statuses(rt: HostRuntime) {
+    for (status, number) in [
+        (Status::Done, 0),
+        (Status::NotShown, 1),
+        (Status::Usage, 2),
+        (Status::FileRefused, 3),
+        (Status::ReadFault, 4),
+        (Status::WriteFault, 5),
+        (Status::Memory, 6),
+    ] {
+        assert_eq!(rt; status as u8, number);
+    }
+}

@@ -1,0 +1,80 @@
+//! The report of a loop's figures, and whether they show the level that is needed.
+
+ghost use Rattle.std.specs.Prelude.{◌≡◌, ◌<◌, ◌⊎◌, IfOk, IfSome, if◌then◌else◌};
+ghost use Rattle.sil_words.specs.Language.{IsLevel};
+ghost use Rattle.sil_top.specs.Report.{ReportsFixFigures};
+ghost use Rattle.sil_top.specs.Run.{IsOverLimit, IsReported, is_shown};
+ghost use Rattle.sil_top.specs.Causes.{outcome_of};
+
+use crate::Status;
+use crate::answer::Answer;
+use loop_value::{ValueFault, value};
+use sil_bands::{meets, pfd_band, pfh_band};
+use sil_model::{Band, Loop, Steps};
+use sil_report::{limit_fault_text, report};
+use sil_words::{Ask, Mode};
+use std::alloc::{AllocError, Global};
+use std::marker::Brand;
+use std::sync::ledger::{Blank, Ledger};
+
+/// The report of a loop, or the first limit that it exceeds.
+pub fn report_of(alloc: Global, l: &Loop, ask: &Ask) -> Result<Answer, AllocError>
+    requires { IfSome ask.now.need IsLevel }
+    ensures { IfOk result (λ x. IsOverLimit l.now (outcome_of x) ⊎ IsReported ask.now l.now (outcome_of x)) }
+{
+    evaluate::<Brand>(alloc, l, ask, Blank::new(1))
+}
+
+/// The same, with a count of the products that has no bytes.
+fn evaluate<L: Ledger>(
+    alloc: Global,
+    l: &Loop,
+    ask: &Ask,
+    blank: Blank,
+) -> Result<Answer, AllocError>
+    requires name { blank.name ≡ L.name }
+    requires parts { blank.parts ≡ L.parts }
+    requires some { 0 < blank.parts }
+    requires level { IfSome ask.now.need IsLevel }
+    ensures { IfOk result (λ x. IsOverLimit l.now (outcome_of x) ⊎ IsReported ask.now l.now (outcome_of x)) }
+{
+    // The values of a loop are in their ranges.
+    let _ = l.mission();
+    let mut steps = Steps::<L>::open(blank);
+    match value(alloc, l, l.order(), &mut steps) {
+        Ok(value) => Ok(Answer {
+            status: status_of(ask.need, ask.mode, pfd_band(value.pfd), pfh_band(value.pfh)),
+            text: report(alloc, l, &value)?,
+        }),
+        Err(ValueFault::Limit(fault)) => Ok(Answer {
+            status: Status::FileRefused,
+            text: limit_fault_text(alloc, &fault)?,
+        }),
+        Err(ValueFault::Memory(fault)) => Err(fault),
+    }
+}
+
+/// The status of a report with these bands, of PFDavg and of PFH.
+fn status_of(need: Option<u8>, mode: Mode, pfd: Band, pfh: Band) -> Status
+    requires { IfSome need IsLevel }
+    ensures { result ≡ (if is_shown need mode pfd pfh then Status.Done else Status.NotShown) }
+{
+    let Some(need) = need else {
+        return Status::Done;
+    };
+    let is_shown = match mode {
+        Mode::Low => meets(pfd, need),
+        Mode::High => meets(pfh, need),
+        Mode::Both => meets(pfd, need) && meets(pfh, need),
+    };
+    if is_shown {
+        Status::Done
+    } else {
+        Status::NotShown
+    }
+}
+
+/// A report tells its figures: no other ends and no other bands have the same text.
+pub fn reports_fix_figures()
+    ensures { ReportsFixFigures }
+{}
