@@ -1,3 +1,4 @@
 pub mod Bands
+pub mod Complete
 pub mod Reports
 pub mod Told

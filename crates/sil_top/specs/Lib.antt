@@ -1,3 +1,4 @@
 pub mod Causes
+pub mod Complete
 pub mod Report
 pub mod Run

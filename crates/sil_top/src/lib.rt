@@ -6,10 +6,12 @@ mod figures;
 mod load;
 mod verbs;
 
-ghost use Rattle.std.specs.Prelude.{◌≡◌, ℕ, ◌++◌, List, ◌⊎◌, map, string_bytes, IsTrue};
+ghost use Rattle.std.specs.Prelude.{◌≡◌, ℕ, ◌++◌, ◌∷◌, List, [], ◌⊎◌, true, map, string_bytes, IsTrue};
 ghost use Rattle.sil_io.specs.Faults.{CountsFault};
 ghost use Rattle.sil_io.specs.Bytes.{AppendsPart};
-ghost use Rattle.sil_words.specs.Language.{IsInLanguage};
+ghost use Rattle.sil_words.specs.Language.{Asks, IsInLanguage};
+ghost use Rattle.sil_words.specs.declared.ask.Ask.{Ask};
+ghost use Rattle.sil_top.specs.Complete.{IsHeld, IsOffered, IsOfferedOnce, IsQuiet, IsSound};
 ghost use Rattle.sil_top.specs.Run.{CallsFor, IsFileAsked, IsStopped};
 
 use crate::answer::Fault;
@@ -90,6 +92,26 @@ pub fn run<S: Shelf, K: Sink>(
     // Where the words ask for no file, the shelf is as before.
     ensures untouched { (IsFileAsked (map string_bytes words.now) → ⊥) → shelf.new ≡ shelf.old }
     ensures files_stay { IsTrue S.tells → (name : List ℕ) → S.file shelf.new name ≡ S.file shelf.old name }
+    // The shelf is asked for one file at most, that of the words, and a fault is that of this file.
+    ensures picked_once { (a : Ask) → Asks (map string_bytes words.now) a
+        → (shelf.new ≡ shelf.old) ⊎ (S.tried shelf.new ≡ S.tried shelf.old ++ a.name ∷ []) }
+    ensures noted { result ≡ Status.ReadFault → S.failed shelf.new ≡ true }
+    ensures fault_of_name { result ≡ Status.ReadFault → (a : Ask) → Asks (map string_bytes words.now) a → S.tried shelf.new ≡ S.tried shelf.old ++ a.name ∷ [] }
+    // The text is offered to the sink in one piece, and a write fault is that of the last write.
+    ensures in_one_piece { IsOfferedOnce (K.offered sink.old) (K.offered sink.new) }
+    ensures last_failed { result ≡ Status.WriteFault → (K.failed sink.new ≡ true) × IsOffered (K.offered sink.old) (K.offered sink.new) }
+    // Over a calm shelf that holds the file, its count stays, and no read fault comes.
+    ensures calm_stays { S.calm shelf.old → S.calm shelf.new }
+    ensures calm_count { S.calm shelf.old → IsHeld (S.file shelf.old) (map string_bytes words.now) → S.faults shelf.new ≡ S.faults shelf.old }
+    ensures calm_reads { S.calm shelf.old → IsHeld (S.file shelf.old) (map string_bytes words.now) → result ≡ Status.ReadFault → ⊥ }
+    // Completeness: words in the language, a told file without fault or limit, if they ask for one, and no rise of either count
+    // of faults give the whole answer, or want of memory.
+    ensures complete { IsSound S.tells (S.file shelf.old) (map string_bytes words.now)
+        → IsQuiet (S.faults shelf.old) (S.faults shelf.new) → IsQuiet (K.faults sink.old) (K.faults sink.new)
+        → (result ≡ Status.Memory) ⊎ (((result ≡ Status.Done) ⊎ (result ≡ Status.NotShown)) × ((text : List ℕ)
+        × CallsFor S.tells (S.file shelf.old) (S.handed shelf.new) (map string_bytes words.now) (record { status = result; text = text })
+        × (K.taken sink.new ≡ K.taken sink.old ++ text)
+        × (IsTrue K.tells → K.written sink.new ≡ K.written sink.old ++ text))) }
 {
     match answer_to(alloc, words, shelf) {
         Ok(answer) => write_text(sink, &answer.text, answer.status),
@@ -110,6 +132,8 @@ fn write_text<K: Sink>(sink: &mut K, text: &[u8], status: Status) -> Status
         × AppendsPart (K.taken sink.old) (K.taken sink.new) text.now
         × (IsTrue K.tells → AppendsPart (K.written sink.old) (K.written sink.new) text.now) }
     ensures one_of_two { (result ≡ status) ⊎ (result ≡ Status.WriteFault) }
+    ensures in_one_piece { IsOfferedOnce (K.offered sink.old) (K.offered sink.new) }
+    ensures last_failed { result ≡ Status.WriteFault → (K.failed sink.new ≡ true) × IsOffered (K.offered sink.old) (K.offered sink.new) }
 {
     match write_whole(sink, text) {
         Ok(()) => status,

@@ -1,6 +1,6 @@
 //! The loop of a file.
 
-ghost use Rattle.std.specs.Prelude.{◌≡◌, ℕ, List, IsTrue, IfOk, IfErr};
+ghost use Rattle.std.specs.Prelude.{◌≡◌, ℕ, List, [], ◌∷◌, ◌++◌, true, IsTrue, IsSome, IfOk, IfErr, IsErrOf};
 ghost use Rattle.sil_top.specs.Run.{IsFileOf, IsHandedWhole};
 ghost use Rattle.sil_top.specs.Causes.{IsFileFault};
 
@@ -17,6 +17,11 @@ pub fn load<S: Shelf>(alloc: Global, name: &str, shelf: &mut S) -> Result<Loop, 
     ensures loaded { IfOk result (IsFileOf S.tells (S.file shelf.old) (S.handed shelf.new) name.now) }
     ensures fault { IfErr result (IsFileFault S.tells (S.file shelf.old) (S.handed shelf.new) name.now (S.faults shelf.old) (S.faults shelf.new)) }
     ensures files_stay { IsTrue S.tells → (other : List ℕ) → S.file shelf.new other ≡ S.file shelf.old other }
+    ensures tried { S.tried shelf.new ≡ S.tried shelf.old ++ name.now ∷ [] }
+    ensures noted { IsErrOf result Fault.Read → S.failed shelf.new ≡ true }
+    ensures calm_stays { S.calm shelf.old → S.calm shelf.new }
+    ensures calm_count { S.calm shelf.old → IsSome (S.file shelf.old name.now) → S.faults shelf.new ≡ S.faults shelf.old }
+    ensures calm_reads { S.calm shelf.old → IsSome (S.file shelf.old name.now) → IsErrOf result Fault.Read → ⊥ }
 {
     let bytes = read_file(alloc, name, shelf)?;
     match read_loop(alloc, &bytes) {
@@ -34,6 +39,11 @@ fn read_file<S: Shelf>(alloc: Global, name: &str, shelf: &mut S) -> Result<Vec<u
     ensures whole { IfOk result (λ bytes. IsHandedWhole S.tells (S.file shelf.old) (S.handed shelf.new) name.now bytes.items) }
     ensures fault { IfErr result (IsFileFault S.tells (S.file shelf.old) (S.handed shelf.new) name.now (S.faults shelf.old) (S.faults shelf.new)) }
     ensures files_stay { IsTrue S.tells → (other : List ℕ) → S.file shelf.new other ≡ S.file shelf.old other }
+    ensures tried { S.tried shelf.new ≡ S.tried shelf.old ++ name.now ∷ [] }
+    ensures noted { IsErrOf result Fault.Read → S.failed shelf.new ≡ true }
+    ensures calm_stays { S.calm shelf.old → S.calm shelf.new }
+    ensures calm_count { S.calm shelf.old → IsSome (S.file shelf.old name.now) → S.faults shelf.new ≡ S.faults shelf.old }
+    ensures calm_reads { S.calm shelf.old → IsSome (S.file shelf.old name.now) → IsErrOf result Fault.Read → ⊥ }
 {
     if shelf.pick(name).is_err() {
         return Err(Fault::Read);

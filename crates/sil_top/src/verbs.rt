@@ -1,6 +1,9 @@
 //! The verbs: what the words call for.
 
-ghost use Rattle.std.specs.Prelude.{◌≡◌, ◌⊎◌, ℕ, List, map, string_bytes, IsTrue, IfOk, IfErr, IfSome};
+ghost use Rattle.std.specs.Prelude.{◌≡◌, ◌⊎◌, ℕ, List, [], ◌∷◌, ◌++◌, true, map, string_bytes, IsTrue, IsSome, IfOk, IfErr, IfSome, IsErrOf};
+ghost use Rattle.sil_words.specs.Language.{Asks};
+ghost use Rattle.sil_words.specs.declared.ask.Ask.{Ask};
+ghost use Rattle.sil_top.specs.Complete.{IsHeld};
 ghost use Rattle.loop_gen.specs.Drawn.{drawn_of};
 ghost use Rattle.sil_words.specs.Language.{IsLevel};
 ghost use Rattle.sil_top.specs.Run.{CallsFor, IsFileAsked, IsOfFile, IsOverLimit, IsPrinted, IsReported, IsSized};
@@ -25,6 +28,13 @@ pub fn answer_to<S: Shelf>(alloc: Global, words: &[String], shelf: &mut S) -> Re
     ensures cause { IfErr result (HasCause S.tells (S.file shelf.old) (S.handed shelf.new) (map string_bytes words.now) (S.handed shelf.old) (S.faults shelf.old) (S.faults shelf.new)) }
     ensures untouched { (IsFileAsked (map string_bytes words.now) → ⊥) → shelf.new ≡ shelf.old }
     ensures files_stay { IsTrue S.tells → (name : List ℕ) → S.file shelf.new name ≡ S.file shelf.old name }
+    ensures picked_once { (a : Ask) → Asks (map string_bytes words.now) a
+        → (shelf.new ≡ shelf.old) ⊎ (S.tried shelf.new ≡ S.tried shelf.old ++ a.name ∷ []) }
+    ensures noted { IsErrOf result Fault.Read → S.failed shelf.new ≡ true }
+    ensures fault_of_name { IsErrOf result Fault.Read → (a : Ask) → Asks (map string_bytes words.now) a → S.tried shelf.new ≡ S.tried shelf.old ++ a.name ∷ [] }
+    ensures calm_stays { S.calm shelf.old → S.calm shelf.new }
+    ensures calm_count { S.calm shelf.old → IsHeld (S.file shelf.old) (map string_bytes words.now) → S.faults shelf.new ≡ S.faults shelf.old }
+    ensures calm_reads { S.calm shelf.old → IsHeld (S.file shelf.old) (map string_bytes words.now) → IsErrOf result Fault.Read → ⊥ }
 {
     let ask = match read_words(alloc, words) {
         Ok(ask) => ask,
@@ -45,6 +55,11 @@ fn check<S: Shelf>(alloc: Global, ask: &Ask, shelf: &mut S) -> Result<Answer, Fa
     ensures answer { IfOk result (λ x. IsOfFile S.tells (S.file shelf.old) (S.handed shelf.new) ask.now.name (IsReported ask.now) (outcome_of x)) }
     ensures fault { IfErr result (IsFileFault S.tells (S.file shelf.old) (S.handed shelf.new) ask.now.name (S.faults shelf.old) (S.faults shelf.new)) }
     ensures files_stay { IsTrue S.tells → (name : List ℕ) → S.file shelf.new name ≡ S.file shelf.old name }
+    ensures tried { S.tried shelf.new ≡ S.tried shelf.old ++ ask.now.name ∷ [] }
+    ensures noted { IsErrOf result Fault.Read → S.failed shelf.new ≡ true }
+    ensures calm_stays { S.calm shelf.old → S.calm shelf.new }
+    ensures calm_count { S.calm shelf.old → IsSome (S.file shelf.old ask.now.name) → S.faults shelf.new ≡ S.faults shelf.old }
+    ensures calm_reads { S.calm shelf.old → IsSome (S.file shelf.old ask.now.name) → IsErrOf result Fault.Read → ⊥ }
 {
     let l = load(alloc, ask.name.as_str(), shelf)?;
     report_of(alloc, &l, ask).map_err(Fault::Memory)
@@ -55,6 +70,11 @@ fn size<S: Shelf>(alloc: Global, ask: &Ask, shelf: &mut S) -> Result<Answer, Fau
     ensures answer { IfOk result (λ x. IsOfFile S.tells (S.file shelf.old) (S.handed shelf.new) ask.now.name IsSized (outcome_of x)) }
     ensures fault { IfErr result (IsFileFault S.tells (S.file shelf.old) (S.handed shelf.new) ask.now.name (S.faults shelf.old) (S.faults shelf.new)) }
     ensures files_stay { IsTrue S.tells → (name : List ℕ) → S.file shelf.new name ≡ S.file shelf.old name }
+    ensures tried { S.tried shelf.new ≡ S.tried shelf.old ++ ask.now.name ∷ [] }
+    ensures noted { IsErrOf result Fault.Read → S.failed shelf.new ≡ true }
+    ensures calm_stays { S.calm shelf.old → S.calm shelf.new }
+    ensures calm_count { S.calm shelf.old → IsSome (S.file shelf.old ask.now.name) → S.faults shelf.new ≡ S.faults shelf.old }
+    ensures calm_reads { S.calm shelf.old → IsSome (S.file shelf.old ask.now.name) → IsErrOf result Fault.Read → ⊥ }
 {
     let l = load(alloc, ask.name.as_str(), shelf)?;
     sizes_of(alloc, &l).map_err(Fault::Memory)

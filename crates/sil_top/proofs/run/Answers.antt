@@ -1,5 +1,10 @@
 -- The answer to the words was written whole under its own status, or in part.
 use Rattle.std.proofs.Common.{◌∙◌, refl, sym, subst, inl, inr, map, string_bytes}
+use Rattle.sil_io.specs.Faults.{CountsFault}
+use Rattle.sil_report.specs.Texts.{too_long_line}
+use Rattle.sil_words.specs.Language.{IsInLanguage}
+use Rattle.sil_top.specs.Causes.{refused_by}
+use Rattle.sil_top.proofs.Complete.{IsGiven, done_or_not_shown, given_sound, no_fault}
 use Rattle.sil_top.specs.declared.Status.TheVariants.{Usage}
 use Rattle.sil_top.proofs.Told.{IsTold, told, under}
 use Rattle.sil_top.proofs.run.Goals as goal
@@ -52,3 +57,62 @@ returns-in-Err-Usage-clause-write_fault g c = λ e.
       part.1,
       part.2,
     )
+
+-- Completeness: each way that a run ends.
+
+pub returns-in-Ok-clause-complete : goal.returns-in-Ok-clause-complete
+returns-in-Ok-clause-complete g c = λ sound shelf sink. elim c.write_text.ensures.one_of_two [
+  | inl same ↦
+      let given = given_sound g.S.Shelf.tells (g.S.Shelf.file c.args.shelf.now) (g.S.Shelf.handed c.answer_to.new.shelf) (map string_bytes c.args.words.now) sound _ c.in-Ok.ensures.answer in
+      inr (
+        done_or_not_shown _ (subst IsGiven (sym same) given),
+        (
+          c.deref.result.now,
+          under g.S.Shelf.tells (g.S.Shelf.file c.args.shelf.now) (g.S.Shelf.handed c.answer_to.new.shelf) (map string_bytes c.args.words.now) _ _ _ _ (sym same) (sym c.deref.ensures.value) c.in-Ok.ensures.answer,
+          c.write_text.ensures.all_taken same,
+          c.write_text.ensures.whole same,
+        ),
+      )
+  | inr fault ↦ absurd (no_fault _ _ sink (c.write_text.ensures.part fault).0)
+]
+
+pub returns-in-Err-Usage-clause-complete : goal.returns-in-Err-Usage-clause-complete
+returns-in-Err-Usage-clause-complete g c = λ sound shelf sink.
+    let outside : IsInLanguage (map string_bytes c.args.words.now) → ⊥ = rw c.in-Err-Usage.field-0-is at c.in-Err-Usage.ensures.cause in
+    absurd (outside sound.asks.0)
+
+pub returns-in-Err-TooLong-clause-complete : goal.returns-in-Err-TooLong-clause-complete
+returns-in-Err-TooLong-clause-complete g c = λ sound shelf sink.
+    absurd (given_sound g.S.Shelf.tells (g.S.Shelf.file c.args.shelf.now) (g.S.Shelf.handed c.answer_to.new.shelf) (map string_bytes c.args.words.now) sound (refused_by too_long_line) (rw c.in-Err-TooLong.field-0-is at c.in-Err-TooLong.ensures.cause))
+
+pub returns-in-Err-Refused-clause-complete : goal.returns-in-Err-Refused-clause-complete
+returns-in-Err-Refused-clause-complete g c = λ sound shelf sink.
+    absurd (given_sound g.S.Shelf.tells (g.S.Shelf.file c.args.shelf.now) (g.S.Shelf.handed c.answer_to.new.shelf) (map string_bytes c.args.words.now) sound (refused_by c.in-Err-Refused.line.items) (rw c.in-Err-Refused.field-0-is at c.in-Err-Refused.ensures.cause))
+
+pub returns-in-Err-Read-clause-complete : goal.returns-in-Err-Read-clause-complete
+returns-in-Err-Read-clause-complete g c = λ sound shelf sink.
+    let stopped : CountsFault (g.S.Shelf.faults c.args.shelf.now) (g.S.Shelf.faults c.answer_to.new.shelf) = (rw c.in-Err-Read.field-0-is at c.in-Err-Read.ensures.cause).1 in
+    absurd (no_fault _ _ shelf stopped)
+
+pub returns-in-Err-Memory-clause-complete : goal.returns-in-Err-Memory-clause-complete
+returns-in-Err-Memory-clause-complete g c = λ sound shelf sink. inl refl
+
+-- No text stands for a read fault.
+
+pub returns-in-Ok-clause-noted : goal.returns-in-Ok-clause-noted
+returns-in-Ok-clause-noted g c = λ e. elim c.write_text.ensures.one_of_two [
+  | inl same ↦ absurd (subst IsTold (sym same ∙ e) (told g.S.Shelf.tells (g.S.Shelf.file c.args.shelf.now) (g.S.Shelf.handed c.answer_to.new.shelf) (map string_bytes c.args.words.now) _ c.in-Ok.ensures.answer))
+  | inr fault ↦ let none : ⊥ = cc in absurd none
+]
+
+pub returns-in-Ok-clause-fault_of_name : goal.returns-in-Ok-clause-fault_of_name
+returns-in-Ok-clause-fault_of_name g c = λ e a asks. elim c.write_text.ensures.one_of_two [
+  | inl same ↦ absurd (subst IsTold (sym same ∙ e) (told g.S.Shelf.tells (g.S.Shelf.file c.args.shelf.now) (g.S.Shelf.handed c.answer_to.new.shelf) (map string_bytes c.args.words.now) _ c.in-Ok.ensures.answer))
+  | inr fault ↦ let none : ⊥ = cc in absurd none
+]
+
+pub returns-in-Ok-clause-calm_reads : goal.returns-in-Ok-clause-calm_reads
+returns-in-Ok-clause-calm_reads g c = λ calm held e. elim c.write_text.ensures.one_of_two [
+  | inl same ↦ subst IsTold (sym same ∙ e) (told g.S.Shelf.tells (g.S.Shelf.file c.args.shelf.now) (g.S.Shelf.handed c.answer_to.new.shelf) (map string_bytes c.args.words.now) _ c.in-Ok.ensures.answer)
+  | inr fault ↦ let none : ⊥ = cc in none
+]

@@ -1,0 +1,41 @@
+-- What has to come where memory is found and nothing fails, and in how many pieces it is written.
+use Rattle.std.specs.Prelude.{◌≡◌, ◌⊎◌, ℕ, ◌-◌, ◌^◌, ◌<◌, ◌≤◌, Bool, true, IsTrue, IsSome, List, length, Option, Some, None}
+use Rattle.sil_model.specs.LoopValue.{LoopValue}
+use Rattle.sil_model.specs.Sizes.{first_limit_of, most_file_bytes}
+use Rattle.loop_file.specs.LoopFile.{IsLoopOf}
+use Rattle.sil_io.specs.Bytes.{OffersWhole}
+use Rattle.sil_words.specs.Language.{Asks}
+use Rattle.sil_words.specs.declared.ask.Ask.{Ask}
+use Rattle.sil_top.specs.Run.{takes_file}
+
+-- a count of faults that did not rise, and that is below its last value
+pub record IsQuiet (before now : ℕ) : Type 0 where
+  pub still : now ≤ before
+  pub below : before < 2 ^ 64 - 1
+
+-- the file under this name is not too long, it has no fault, and its loop exceeds no limit
+pub record IsSoundFile (file : List ℕ → Option (List ℕ)) (name : List ℕ) : Type 0 where
+  pub bytes : List ℕ
+  pub is_file : file name ≡ Some bytes
+  pub short : length bytes ≤ most_file_bytes
+  pub value : LoopValue
+  pub is_loop : IsLoopOf bytes value
+  pub within : first_limit_of value value.order ≡ None
+
+-- the words are in the language, and the file that they ask for, if they ask for one, is told and sound
+pub record IsSound (tells : Bool) (file : List ℕ → Option (List ℕ)) (words : List (List ℕ)) : Type 0 where
+  pub asked : Ask
+  pub asks : Asks words asked
+  pub sound : takes_file asked.verb ≡ true → IsTrue tells × IsSoundFile file asked.name
+
+-- the shelf holds the file that the words ask for, if they ask for one
+abbrev pub IsHeld : (List ℕ → Option (List ℕ)) → List (List ℕ) → Type 0
+IsHeld file words = (a : Ask) → Asks words a → takes_file a.verb ≡ true → IsSome (file a.name)
+
+-- one text was offered in one piece, and then only what was left of it
+abbrev pub IsOffered : List (List ℕ) → List (List ℕ) → Type 0
+IsOffered before now = (text : List ℕ) × OffersWhole text before now
+
+-- so, or nothing was offered
+abbrev pub IsOfferedOnce : List (List ℕ) → List (List ℕ) → Type 0
+IsOfferedOnce before now = (now ≡ before) ⊎ IsOffered before now
