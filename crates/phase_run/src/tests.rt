@@ -2,7 +2,8 @@
 
 ghost use Rattle.std.specs.Prelude.{◌≡◌, ◌<◌};
 
-use crate::run_phase;
+use crate::{run_phase, run_phase_by_ladder};
+use beat_ladder::{BlockRoom, Ladder};
 use lumping::Space;
 use product_chain::Chain;
 use sample_loops::{Sample, sample_loop};
@@ -16,10 +17,10 @@ use std::test::Fail;
 use test_calendar::beats_of;
 use uniformise::Workspace;
 
-/// A channel that fails once in a million hours, over a year that it begins working.
+/// A channel that fails once in a million hours, over a year that it begins working, by blocks of at most so many beats.
 ///
 /// The exact numbers are exp(-x) and (1 - exp(-x)) / x for x = 0.00876, and what they leave to 1, rounded down.
-fn one_year<L: Ledger>(rt: &impl Abort, alloc: Global, blank: Blank) -> Result<(), Fail>
+fn one_year<L: Ledger>(rt: &impl Abort, alloc: Global, most: u64, blank: Blank) -> Result<(), Fail>
     requires name { blank.name ≡ L.name }
     requires parts { blank.parts ≡ L.parts }
     requires some { 0 < blank.parts }
@@ -53,9 +54,18 @@ fn one_year<L: Ledger>(rt: &impl Abort, alloc: Global, blank: Blank) -> Result<(
     let mut v = [1 << 48, 0, 0, 0];
     let mut mean = [7; 4];
     let mut hours = [1; 4];
-    run_phase(
-        &mut work, &chain, &weights, 1096, 8760, &mut v, &mut mean, &mut hours, &mut steps,
-    );
+    let ladder = Ladder::new(alloc, most)?;
+    if ladder.rungs() == 0 {
+        run_phase(
+            &mut work, &chain, &weights, 1096, 8760, &mut v, &mut mean, &mut hours, &mut steps,
+        );
+    } else {
+        let mut room = BlockRoom::new(alloc, 4)?;
+        run_phase_by_ladder(
+            &ladder, &mut room, &mut work, &chain, &weights, 1096, 8760, &mut v, &mut mean,
+            &mut hours, &mut steps,
+        );
+    }
     // 1096 beats of 819 units each
     let loss = 897_624;
     let exact: [(u128, u128, u128); 2] = [
@@ -86,7 +96,11 @@ fn one_year<L: Ledger>(rt: &impl Abort, alloc: Global, blank: Blank) -> Result<(
     Ok(())
 }
 
+/// Beat by beat; by beats and blocks of 2, 4 and 8; by blocks alone, of which the greatest has 1,024 beats.
 #[test]
 fn one_year_of_one_channel(rt: HostRuntime) -> Result<(), Fail> {
-    one_year::<Brand>(&rt, rt.alloc(), Blank::new(1))
+    for most in [0, 8, 1096] {
+        one_year::<Brand>(&rt, rt.alloc(), most, Blank::new(1))?;
+    }
+    Ok(())
 }
