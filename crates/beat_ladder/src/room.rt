@@ -14,7 +14,7 @@ use std::alloc::{AllocError, Global};
 use std::marker::Model;
 use std::sync::ledger::Ledger;
 
-/// Room for blocks of beats of vectors of one size. Contracts see it as the size.
+/// Room for blocks of beats of vectors up to a size. Contracts see it as the size.
 #[derive(Drop)]
 pub struct BlockRoom {
     now: Vec<u128>,
@@ -36,7 +36,7 @@ impl Model for BlockRoom {
 }
 
 impl BlockRoom {
-    /// Room for vectors of this size.
+    /// Room for vectors up to this size.
     pub fn new(alloc: Global, size: usize) -> Result<BlockRoom, AllocError>
         ensures { IfOk result (λ w. w ≡ size) }
     {
@@ -64,7 +64,7 @@ impl BlockRoom {
         dwell: &mut [u128],
         steps: &mut Steps<L>,
     )
-        requires size { self.old ≡ T.size tick.now }
+        requires size { T.size tick.now ≤ self.old }
         requires v { length v.old ≡ T.size tick.now }
         requires dwell { length dwell.old ≡ T.size tick.now }
         requires mass { IsMass v.old }
@@ -84,8 +84,7 @@ impl BlockRoom {
 
         ensures steps { steps.new ≤ steps.old + block_products (2 ^ rung.now.exponent) (T.products tick.now) (T.size tick.now) }
     {
-        self.now.copy_from_slice(v);
-        gather(
+        pass_within(
             tick,
             rung,
             &mut self.now,
@@ -93,9 +92,57 @@ impl BlockRoom {
             &mut self.early,
             &mut self.ends,
             &mut self.stays,
+            v,
+            dwell,
             steps,
         );
-        round_down(&self.ends, v);
-        add_rounded_down(&self.stays, dwell);
     }
+}
+
+/// The block, with at least as much room as `v` needs.
+#[allow(clippy::too_many_arguments)]
+fn pass_within<T: Tick, L: Ledger>(
+    tick: &T,
+    rung: &Rung,
+    now: &mut [u128],
+    next: &mut [u128],
+    early: &mut [u128],
+    ends: &mut [u128],
+    stays: &mut [u128],
+    v: &mut [u128],
+    dwell: &mut [u128],
+    steps: &mut Steps<L>,
+)
+    requires now { T.size tick.now ≤ length now.old }
+    requires next { T.size tick.now ≤ length next.old }
+    requires early { T.size tick.now ≤ length early.old }
+    requires ends { T.size tick.now ≤ length ends.old }
+    requires stays { T.size tick.now ≤ length stays.old }
+    requires v { length v.old ≡ T.size tick.now }
+    requires dwell { length dwell.old ≡ T.size tick.now }
+    requires mass { IsMass v.old }
+    requires room { All (λ x. x < 2 ^ 127) dwell.old }
+    requires usable { IsUsable rung.now }
+    // by every value list, at every order from 16 on
+    ensures after { IsAfter (IsStep (T.step tick.now)) 16 (2 ^ rung.now.exponent) v.old v.new }
+    ensures dwelt { IsDwelt (IsStep (T.step tick.now)) 16 (2 ^ rung.now.exponent) v.old dwell.old dwell.new }
+
+    ensures kept { sum v.new ≤ sum v.old }
+    ensures lack { sum v.old ≤ sum v.new + block_loss (2 ^ rung.now.exponent) (T.loss tick.now) (T.size tick.now) }
+    ensures grows { (k : ℕ) → k < length dwell.old → (slice_index dwell.old k ≤ slice_index dwell.new k) × (slice_index dwell.new k ≤ slice_index dwell.old k + 2 ^ rung.now.exponent * 2 ^ 48) }
+    ensures dwell_kept { sum dwell.new ≤ sum dwell.old + 2 ^ rung.now.exponent * sum v.old }
+    ensures dwell_lack { sum dwell.old + 2 ^ rung.now.exponent * sum v.old ≤ sum dwell.new + block_dwell_loss (2 ^ rung.now.exponent) (T.loss tick.now) (T.size tick.now) }
+
+    ensures steps { steps.new ≤ steps.old + block_products (2 ^ rung.now.exponent) (T.products tick.now) (T.size tick.now) }
+{
+    let size = v.len();
+    let now = &mut now[..size];
+    let next = &mut next[..size];
+    let early = &mut early[..size];
+    let ends = &mut ends[..size];
+    let stays = &mut stays[..size];
+    now.copy_from_slice(v);
+    gather(tick, rung, now, next, early, ends, stays, steps);
+    round_down(ends, v);
+    add_rounded_down(stays, dwell);
 }

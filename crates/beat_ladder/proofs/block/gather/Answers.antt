@@ -24,8 +24,8 @@ pub add_products-requires-clause-mass : goal.add_products-requires-clause-mass
 add_products-requires-clause-mass g c =
     let r = c.args.rung.now in
     let low : r.low ≤ 2 ^ 13 = low_few r.exponent r.low r.numbers.items r.tails.items r.held r.tailed r.few c.requires.usable in
-    let most : sum c.early_ticks.new.sums ≤ sum c.args.now.now.items * (r.low * 1) = rw (sum-constant r.low 1) at c.early_ticks.ensures.gathered.most in
-    omega (arith, early_small r.low (sum c.args.now.now.items) (sum c.early_ticks.new.sums) low c.requires.mass most)
+    let most : sum c.early_ticks.new.sums ≤ sum c.args.now.now * (r.low * 1) = rw (sum-constant r.low 1) at c.early_ticks.ensures.gathered.most in
+    omega (arith, early_small r.low (sum c.args.now.now) (sum c.early_ticks.new.sums) low c.requires.mass most)
 
 pub add_products-requires-clause-room : goal.add_products-requires-clause-room
 add_products-requires-clause-room g c =
@@ -33,8 +33,8 @@ add_products-requires-clause-room g c =
     let zeros : sum c.fill-2.new.self ≡ 0 = sum-none c.fill-2.new.self
     (λ k h. rw (c.fill-2.ensures.after (λ y e. e)) (get_or-replicate (length c.args.stays.now) k 0 0 (omega (arith, c.fill-2.ensures.len)))) in
     let low : r.low ≤ 2 ^ 13 = low_few r.exponent r.low r.numbers.items r.tails.items r.held r.tailed r.few c.requires.usable in
-    let most : sum c.early_ticks.new.sums ≤ sum c.args.now.now.items * (r.low * 1) = rw (sum-constant r.low 1) at c.early_ticks.ensures.gathered.most in
-    let early : sum c.early_ticks.new.sums ≤ 2 ^ 61 = early_small r.low (sum c.args.now.now.items) (sum c.early_ticks.new.sums) low c.requires.mass most in
+    let most : sum c.early_ticks.new.sums ≤ sum c.args.now.now * (r.low * 1) = rw (sum-constant r.low 1) at c.early_ticks.ensures.gathered.most in
+    let early : sum c.early_ticks.new.sums ≤ 2 ^ 61 = early_small r.low (sum c.args.now.now) (sum c.early_ticks.new.sums) low c.requires.mass most in
     let flat : r.flat ≤ 2 ^ 48 = omega (arith, r.flat_is, held_mass r.exponent r.low r.numbers.items r.held) in
     omega (arith, zeros, early, mul-le-mul_right (sum c.early_ticks.new.sums) flat)
 
@@ -45,12 +45,12 @@ loop-k-init g c =
     let loss : ℕ = g.T.Tick.loss c.args.tick.now in
     let z : r.low + 0 ≡ r.low = omega arith in
     record {
-      now = omega (arith, c.early_ticks.ensures.now);
-      next = omega (arith, c.early_ticks.ensures.next);
+      now = c.early_ticks.auto.now;
+      next = c.early_ticks.auto.next;
       ticked = rw z c.early_ticks.ensures.ticked;
-      ends = rw z (gathered_zeros B loss c.args.now.now.items c.fill.new.self (power_of r.exponent) r.low
+      ends = rw z (gathered_zeros B loss c.args.now.now c.fill.new.self (power_of r.exponent) r.low
           (λ k h. rw (c.fill.ensures.after (λ y e. e)) (get_or-replicate (length c.args.ends.now) k 0 0 (omega (arith, c.fill.ensures.len)))) r.held.before);
-      stays = rw z (stays_first B loss c.args.now.now.items r.exponent r.low r.numbers.items r.tails.items r.held r.tailed c.early_ticks.new.sums
+      stays = rw z (stays_first B loss c.args.now.now r.exponent r.low r.numbers.items r.tails.items r.held r.tailed c.early_ticks.new.sums
           c.fill-2.new.self c.add_products.new.sums
           (λ k h. rw (c.fill-2.ensures.after (λ y e. e)) (get_or-replicate (length c.args.stays.now) k 0 0 (omega (arith, c.fill-2.ensures.len))))
           (rw r.flat_is at c.add_products.ensures.added) c.early_ticks.ensures.gathered);
@@ -62,14 +62,14 @@ add_products-requires-in-loop-k-clause-room g c =
     let r = c.args.rung.now in
     let B = IsStep (g.T.Tick.step c.args.tick.now) in
     let loss : ℕ = g.T.Tick.loss c.args.tick.now in
-    let now : sum c.deref.result.now ≤ 2 ^ 48 = rw c.deref.ensures.value (omega (arith, c.loop-k.invariant.ticked.most, c.requires.mass)) in
+    let now : sum c.loop-k.now ≤ 2 ^ 48 = omega (arith, c.loop-k.invariant.ticked.most, c.requires.mass) in
     let w : c.index.result.now ≡ slice_index r.numbers.items c.loop-k.k = c.index.ensures
     ∙ get_or_default_zero r.numbers.items c.loop-k.k c.index.result.now (omega (arith, r.numbers.ok.0, r.tailed.same)) in
     omega (
       arith,
-      ends_room r.exponent r.low r.numbers.items r.tails.items r.held r.tailed B loss c.args.now.now.items c.requires.mass c.loop-k.ends
+      ends_room r.exponent r.low r.numbers.items r.tails.items r.held r.tailed B loss c.args.now.now c.requires.mass c.loop-k.ends
           (r.low + c.loop-k.k) c.loop-k.invariant.ends,
-      number_room r.exponent r.low r.numbers.items r.tails.items r.held r.tailed c.index.result.now (sum c.deref.result.now) c.loop-k.k w now,
+      number_room r.exponent r.low r.numbers.items r.tails.items r.held r.tailed c.index.result.now (sum c.loop-k.now) c.loop-k.k w now,
     )
 
 pub add_products-requires-in-loop-k-2-clause-room : goal.add_products-requires-in-loop-k-2-clause-room
@@ -77,15 +77,15 @@ add_products-requires-in-loop-k-2-clause-room g c =
     let r = c.args.rung.now in
     let B = IsStep (g.T.Tick.step c.args.tick.now) in
     let loss : ℕ = g.T.Tick.loss c.args.tick.now in
-    let now : sum c.deref-in-loop-k.result.now ≤ 2 ^ 48 = rw c.deref-in-loop-k.ensures.value (omega (arith, c.loop-k.invariant.ticked.most, c.requires.mass)) in
+    let now : sum c.loop-k.now ≤ 2 ^ 48 = omega (arith, c.loop-k.invariant.ticked.most, c.requires.mass) in
     let w : c.index-in-loop-k.result.now ≡ slice_index r.tails.items c.loop-k.k = c.index-in-loop-k.ensures
     ∙ get_or_default_zero r.tails.items c.loop-k.k c.index-in-loop-k.result.now (omega (arith, r.numbers.ok.0, r.tailed.same)) in
     omega (
       arith,
-      stays_room r.exponent r.low r.numbers.items r.tails.items r.held r.tailed B loss c.args.now.now.items c.requires.mass c.loop-k.stays
+      stays_room r.exponent r.low r.numbers.items r.tails.items r.held r.tailed B loss c.args.now.now c.requires.mass c.loop-k.stays
           (r.low + c.loop-k.k) r.few (omega (arith, r.numbers.ok.0)) c.loop-k.invariant.stays,
       tail_room r.exponent r.low r.numbers.items r.tails.items r.held r.tailed c.index-in-loop-k.result.now
-          (sum c.deref-in-loop-k.result.now) c.loop-k.k r.few w now,
+          (sum c.loop-k.now) c.loop-k.k r.few w now,
     )
 
 pub loop-k-preserved : goal.loop-k-preserved
@@ -93,35 +93,32 @@ loop-k-preserved g c =
     let r = c.args.rung.now in
     let B = IsStep (g.T.Tick.step c.args.tick.now) in
     let loss : ℕ = g.T.Tick.loss c.args.tick.now in
-    let v : List ℕ = c.args.now.now.items in
+    let v : List ℕ = c.args.now.now in
     let within : c.loop-k.k < length r.numbers.items = omega (arith, r.numbers.ok.0) in
     let number : c.index.result.now ≡ slice_index r.numbers.items c.loop-k.k =
     c.index.ensures ∙ get_or_default_zero r.numbers.items c.loop-k.k c.index.result.now within in
     let tail : c.index-in-loop-k.result.now ≡ slice_index r.tails.items c.loop-k.k =
     c.index-in-loop-k.ensures ∙ get_or_default_zero r.tails.items c.loop-k.k c.index-in-loop-k.result.now (omega (arith, r.tailed.same)) in
-    let size : length c.loop-k.now.items ≡ g.T.Tick.size c.args.tick.now = omega (arith, c.loop-k.invariant.now, c.loop-k.now.ok.0, c.requires.now) in
-    let one : length c.deref.result.now ≡ g.T.Tick.size c.args.tick.now = rw c.deref.ensures.value size in
-    let two : length c.deref-in-loop-k.result.now ≡ g.T.Tick.size c.args.tick.now = rw c.deref-in-loop-k.ensures.value size in
+    let size : length c.loop-k.now ≡ g.T.Tick.size c.args.tick.now = omega (arith, c.loop-k.invariant.now, c.requires.now) in
     let next : r.low + (c.loop-k.k + 1) ≡ r.low + c.loop-k.k + 1 = omega arith in
     record {
-      now = omega (arith, c.step.ensures.now, c.loop-k.invariant.now);
-      next = omega (arith, c.step.ensures.next, c.loop-k.invariant.next);
-      ticked = rw next (ticked_more B loss v c.loop-k.now.items c.step.new.now.items (r.low + c.loop-k.k) c.loop-k.invariant.ticked c.step.ensures.weighed
+      now = c.step.auto.now ∙ c.loop-k.invariant.now;
+      next = c.step.auto.next ∙ c.loop-k.invariant.next;
+      ticked = rw next (ticked_more B loss v c.loop-k.now c.step.new.now (r.low + c.loop-k.k) c.loop-k.invariant.ticked c.step.ensures.weighed
           c.step.ensures.kept c.step.ensures.lack);
-      ends = ends_more B loss v r.exponent r.low r.numbers.items r.tails.items r.held r.tailed c.loop-k.now.items c.loop-k.ends
+      ends = ends_more B loss v r.exponent r.low r.numbers.items r.tails.items r.held r.tailed c.loop-k.now c.loop-k.ends
           c.add_products-in-loop-k.new.sums c.loop-k.k c.index.result.now within number
-          (rw c.deref.ensures.value at c.add_products-in-loop-k.ensures.added) c.loop-k.invariant.ticked c.loop-k.invariant.ends;
-      stays = stays_more B loss v r.exponent r.low r.numbers.items r.tails.items r.held r.tailed c.loop-k.now.items c.loop-k.stays
+          c.add_products-in-loop-k.ensures.added c.loop-k.invariant.ticked c.loop-k.invariant.ends;
+      stays = stays_more B loss v r.exponent r.low r.numbers.items r.tails.items r.held r.tailed c.loop-k.now c.loop-k.stays
           c.add_products-in-loop-k-2.new.sums c.loop-k.k c.index-in-loop-k.result.now within tail
-          (rw c.deref-in-loop-k.ensures.value at c.add_products-in-loop-k-2.ensures.added) c.loop-k.invariant.ticked c.loop-k.invariant.stays;
+          c.add_products-in-loop-k-2.ensures.added c.loop-k.invariant.ticked c.loop-k.invariant.stays;
       counted = omega (
         arith,
         c.loop-k.invariant.counted,
         c.add_products-in-loop-k.ensures.steps,
         c.add_products-in-loop-k-2.ensures.steps,
         c.step.ensures.steps,
-        one,
-        two,
+        size,
       );
     }
 
@@ -130,15 +127,15 @@ add_products-requires-2-clause-room g c =
     let r = c.args.rung.now in
     let B = IsStep (g.T.Tick.step c.args.tick.now) in
     let loss : ℕ = g.T.Tick.loss c.args.tick.now in
-    let now : sum c.deref-2.result.now ≤ 2 ^ 48 = rw c.deref-2.ensures.value (omega (arith, c.loop-k.invariant.ticked.most, c.requires.mass)) in
+    let now : sum c.loop-k.now ≤ 2 ^ 48 = omega (arith, c.loop-k.invariant.ticked.most, c.requires.mass) in
     let w : c.index-2.result.now ≡ slice_index r.numbers.items (c.len-last.result - 1) = c.index-2.ensures
     ∙ get_or_default_zero r.numbers.items (c.len-last.result - 1) c.index-2.result.now (omega (arith, r.numbers.ok.0, r.tailed.same)) in
     omega (
       arith,
-      ends_room r.exponent r.low r.numbers.items r.tails.items r.held r.tailed B loss c.args.now.now.items c.requires.mass c.loop-k.ends
+      ends_room r.exponent r.low r.numbers.items r.tails.items r.held r.tailed B loss c.args.now.now c.requires.mass c.loop-k.ends
           (r.low + c.loop-k.k) c.loop-k.invariant.ends,
       number_room r.exponent r.low r.numbers.items r.tails.items r.held r.tailed c.index-2.result.now
-          (sum c.deref-2.result.now) (c.len-last.result - 1) w now,
+          (sum c.loop-k.now) (c.len-last.result - 1) w now,
     )
 
 pub returns-clause-ends : goal.returns-clause-ends
@@ -148,21 +145,21 @@ returns-clause-ends g c =
     let k : c.len-last.result - 1 ≡ c.loop-k.k = omega arith in
     let w : c.index-2.result.now ≡ slice_index r.numbers.items c.loop-k.k =
     (rw k at c.index-2.ensures) ∙ get_or_default_zero r.numbers.items c.loop-k.k c.index-2.result.now (omega (arith, r.tailed.same)) in
-    ends_all (IsStep (g.T.Tick.step c.args.tick.now)) (g.T.Tick.loss c.args.tick.now) c.args.now.now.items r.exponent r.low r.numbers.items r.tails.items
-    r.held r.tailed c.loop-k.now.items c.loop-k.ends c.add_products-2.new.sums c.loop-k.k c.index-2.result.now last w
-    (rw c.deref-2.ensures.value at c.add_products-2.ensures.added) c.loop-k.invariant.ticked c.loop-k.invariant.ends
+    ends_all (IsStep (g.T.Tick.step c.args.tick.now)) (g.T.Tick.loss c.args.tick.now) c.args.now.now r.exponent r.low r.numbers.items r.tails.items
+    r.held r.tailed c.loop-k.now c.loop-k.ends c.add_products-2.new.sums c.loop-k.k c.index-2.result.now last w
+    c.add_products-2.ensures.added c.loop-k.invariant.ticked c.loop-k.invariant.ends
 
 pub returns-clause-stays : goal.returns-clause-stays
 returns-clause-stays g c =
     let r = c.args.rung.now in
     let last : c.loop-k.k + 1 ≡ length r.numbers.items = omega (arith, r.numbers.ok.0, r.held.some) in
-    stays_all (IsStep (g.T.Tick.step c.args.tick.now)) (g.T.Tick.loss c.args.tick.now) c.args.now.now.items r.exponent r.low r.numbers.items r.tails.items
+    stays_all (IsStep (g.T.Tick.step c.args.tick.now)) (g.T.Tick.loss c.args.tick.now) c.args.now.now r.exponent r.low r.numbers.items r.tails.items
     r.held r.tailed c.loop-k.stays c.loop-k.k last c.loop-k.invariant.stays
 
 pub returns-clause-steps : goal.returns-clause-steps
 returns-clause-steps g c =
     let r = c.args.rung.now in
     let last : length r.numbers.items ≡ c.loop-k.k + 1 = omega (arith, r.numbers.ok.0, r.held.some) in
-    let size : length c.deref-2.result.now ≡ g.T.Tick.size c.args.tick.now =
-    rw c.deref-2.ensures.value (omega (arith, c.loop-k.invariant.now, c.loop-k.now.ok.0, c.requires.now)) in
+    let size : length c.loop-k.now ≡ g.T.Tick.size c.args.tick.now =
+    omega (arith, c.loop-k.invariant.now, c.requires.now) in
     rw last (omega (arith, c.loop-k.invariant.counted, c.add_products-2.ensures.steps, size))

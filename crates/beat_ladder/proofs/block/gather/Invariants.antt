@@ -1,4 +1,4 @@
-use Rattle.std.proofs.Common.{◌≡◌, ◌+◌, ◌*◌, ◌≤◌, vec_len}
+use Rattle.std.proofs.Common.{◌≡◌, ◌+◌, ◌*◌, ◌≤◌, length}
 use Rattle.block_laws.specs.Block.{IsTicked, IsGathered}
 use Rattle.beat_ladder.specs.Powers.{power_of}
 use Rattle.beat_ladder.specs.Losses.{IsStep}
@@ -7,11 +7,11 @@ use Rattle.beat_ladder.proofs.block.gather.Given as goal
 
 abbrev pub invariant-loop-k : goal.invariant-loop-k
 invariant-loop-k g l = record {
-  now : vec_len l.now ≡ vec_len l.fn.now;
-  next : vec_len l.next ≡ vec_len l.fn.next;
-  ticked : IsTicked (IsStep (g.T.Tick.step l.tick)) (g.T.Tick.loss l.tick) l.fn.now.items l.now.items (l.rung.low + l.k);
-  ends : IsGathered (IsStep (g.T.Tick.step l.tick)) (g.T.Tick.loss l.tick) l.fn.now.items l.ends (power_of l.rung.exponent) (l.rung.low + l.k);
-  stays : IsGathered (IsStep (g.T.Tick.step l.tick)) (g.T.Tick.loss l.tick) l.fn.now.items l.stays
+  now : length l.now ≡ length l.fn.now;
+  next : length l.next ≡ length l.fn.next;
+  ticked : IsTicked (IsStep (g.T.Tick.step l.tick)) (g.T.Tick.loss l.tick) l.fn.now l.now (l.rung.low + l.k);
+  ends : IsGathered (IsStep (g.T.Tick.step l.tick)) (g.T.Tick.loss l.tick) l.fn.now l.ends (power_of l.rung.exponent) (l.rung.low + l.k);
+  stays : IsGathered (IsStep (g.T.Tick.step l.tick)) (g.T.Tick.loss l.tick) l.fn.now l.stays
       (tail l.rung.exponent l.rung.low l.rung.numbers.items l.rung.tails.items l.rung.held l.rung.tailed) (l.rung.low + l.k);
   counted : l.steps ≤ l.fn.steps + (l.rung.low + l.k) * g.T.Tick.products l.tick + (2 * l.k + 1) * g.T.Tick.size l.tick;
 }

@@ -1,5 +1,5 @@
-use Rattle.std.proofs.Common.{◌≡◌, ℕ, ◌+◌, ◌/◌, ◌^◌, ◌<◌, List, ◌++◌, length, slice_index, take, ◌∙◌, arith}
-use Rattle.std.proofs.Math.Seq.{take-append_seam}
+use Rattle.std.proofs.Common.{◌≡◌, ℕ, ◌+◌, ◌/◌, ◌^◌, ◌<◌, length, slice_index, arith}
+use Rattle.std.proofs.lemmas.List.{length-take-le}
 use Rattle.sil_model.specs.Series.{Values}
 use Rattle.vector_laws.specs.Laws.{AreFloors}
 use Rattle.block_laws.specs.Block.{IsGathered}
@@ -8,14 +8,10 @@ use Rattle.beat_ladder.specs.Losses.{IsStep}
 use Rattle.beat_ladder.specs.declared.rung.Rung.{Rung}
 use Rattle.beat_ladder.proofs.Tails.{tail}
 use Rattle.beat_ladder.proofs.Passes.{passed_after, passed_most, passed_least, passed_dwelt, passed_dwell_most, passed_dwell_least, passed_grows, passed_products}
-use Rattle.beat_ladder.proofs.room.BlockRoom.pass.Given.{Over}
-use Rattle.beat_ladder.proofs.room.BlockRoom.pass.Goals as goal
+use Rattle.beat_ladder.proofs.room.pass_within.Given.{Over}
+use Rattle.beat_ladder.proofs.room.pass_within.Goals as goal
 
--- a vector that was written over as a whole
-written : (n : ℕ) (xs ys : List ℕ) → n ≡ length xs → take n (xs ++ ys) ≡ xs
-written n xs ys e = rw e (take-append_seam xs ys)
-
-module _ (g : Over) (c : goal.After-slice_known-4-1 g) where
+module _ (g : Over) (c : goal.After-slice_known-17-1 g) where
   abbrev B : (Values ℕ → Values ℕ) → Type 0
   B T = IsStep (g.T.Tick.step c.args.tick.now) T
 
@@ -25,28 +21,22 @@ module _ (g : Over) (c : goal.After-slice_known-4-1 g) where
   abbrev r : Rung
   r = c.args.rung.now
 
-  ends : c.deref.result.now ≡ c.gather.new.ends
-  ends = c.deref.ensures.value ∙ written _ c.gather.new.ends _ (omega arith)
-
-  stays : c.deref-2.result.now ≡ c.gather.new.stays
-  stays = c.deref-2.ensures.value ∙ written _ c.gather.new.stays _ (omega arith)
-
   ends_gathered : IsGathered B loss c.args.v.now c.gather.new.ends (power_of r.exponent) (r.low + length r.numbers.items)
-  ends_gathered = rw c.copy_from_slice.ensures.items at c.gather.ensures.ends
+  ends_gathered = rw c.copy_from_slice.ensures.after at c.gather.ensures.ends
 
   stays_gathered : IsGathered B loss c.args.v.now c.gather.new.stays (tail r.exponent r.low r.numbers.items r.tails.items r.held r.tailed)
       (r.low + length r.numbers.items)
-  stays_gathered = rw c.copy_from_slice.ensures.items at c.gather.ensures.stays
+  stays_gathered = rw c.copy_from_slice.ensures.after at c.gather.ensures.stays
 
   floors : AreFloors (2 ^ 48) c.gather.new.ends c.round_down.new.to
-  floors = rw ends at c.round_down.ensures
+  floors = c.round_down.ensures
 
   old_long : length c.args.dwell.now ≡ length c.gather.new.stays
-  old_long = omega arith
+  old_long = omega (arith, c.gather.auto.stays, length-take-le (length c.args.v.now) c.args.stays.now (omega arith))
 
   added : (k : ℕ) → k < length c.gather.new.stays → slice_index c.add_rounded_down.new.to k
       ≡ slice_index c.args.dwell.now k + slice_index c.gather.new.stays k / 2 ^ 48
-  added = rw stays at c.add_rounded_down.ensures.added
+  added = c.add_rounded_down.ensures.added
 
   size : length c.round_down.new.to ≡ g.T.Tick.size c.args.tick.now
   size = omega (arith, floors.same_length)
