@@ -2,8 +2,8 @@
 
 ghost use Rattle.std.specs.Prelude.{◌≡◌, ◌<◌};
 
-use crate::{run_phase, run_phase_by_ladder};
-use beat_ladder::{BlockRoom, Ladder};
+use crate::{PlaceRoom, run_phase, run_phase_by_ladder};
+use beat_ladder::Ladder;
 use lumping::Space;
 use product_chain::Chain;
 use sample_loops::{Sample, sample_loop};
@@ -60,7 +60,7 @@ fn one_year<L: Ledger>(rt: &impl Abort, alloc: Global, most: u64, blank: Blank) 
             &mut work, &chain, &weights, 1096, 8760, &mut v, &mut mean, &mut hours, &mut steps,
         );
     } else {
-        let mut room = BlockRoom::new(alloc, 4)?;
+        let mut room = PlaceRoom::new(alloc, &l, &chain, 4)?;
         run_phase_by_ladder(
             &ladder, &mut room, &mut work, &chain, &weights, 1096, 8760, &mut v, &mut mean,
             &mut hours, &mut steps,
