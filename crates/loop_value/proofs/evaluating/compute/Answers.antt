@@ -15,3 +15,6 @@ returns-clause-pfd g c N o = c.evaluate-figures.ensures.pfd N (rw c.in_ok-parts.
 
 pub returns-clause-pfh : goal.returns-clause-pfh
 returns-clause-pfh g c N o = c.evaluate-figures.ensures.pfh N (rw c.in_ok-parts.ensures.weights o)
+
+pub evaluate-figures-requires-clause-rates_within : goal.evaluate-figures-requires-clause-rates_within
+evaluate-figures-requires-clause-rates_within g c i = rw c.as_slice-2.ensures.value (c.in_ok-parts.ensures.rates_within i)
