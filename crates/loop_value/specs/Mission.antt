@@ -26,7 +26,7 @@ pub record IsOf (l : LoopValue) (m : Machine) : Type 0 where
   pub hours : IsWithin 1 350_400 m.hours
   pub chain : m.chain ≡ record { of = l; hours = m.hours; beats = beats_of l.subsystems m.hours }
   pub work : m.work ≡ states_of l.subsystems
-  pub blocks : m.blocks ≡ states_of l.subsystems
+  pub places : m.places ≡ l
   pub tests : m.tests ≡ l
 
 -- the greatest rate at which a loop may go down

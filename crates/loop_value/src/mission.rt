@@ -17,9 +17,9 @@ ghost use Rattle.loop_value.specs.Mission.{IsOf, IsPlanOf, HasReached, greatest_
 ghost use Rattle.loop_value.specs.Records.{HasFed, HasFedInPart, HasFedPhase, HasFedPhaseInPart};
 
 use crate::telling::tell;
-use beat_ladder::{BlockRoom, Ladder};
+use beat_ladder::Ladder;
 use lumping::Space;
-use phase_run::run_phase_by_ladder;
+use phase_run::{PlaceRoom, run_phase_by_ladder};
 use product_chain::Chain;
 use series_weights::Weights;
 use sil_model::{Loop, Steps};
@@ -45,8 +45,8 @@ pub struct Machine {
     pub work: Workspace,
     /// Blocks of many beats.
     pub ladder: Ladder,
-    /// Room for a block of beats.
-    pub blocks: BlockRoom,
+    /// Room for blocks of beats over the places that hold mass.
+    pub places: PlaceRoom,
     /// The tests of an hour.
     pub tests: Tests,
 }
@@ -107,7 +107,7 @@ fn pass_phase<L: Ledger>(
     retime(m, l, hours, beats);
     run_phase_by_ladder(
         &m.ladder,
-        &mut m.blocks,
+        &mut m.places,
         &mut m.work,
         &m.chain,
         &m.weights,

@@ -5,11 +5,12 @@ ghost use Rattle.sil_model.specs.Sizes.{all_beats_of, most_beats, states_of, mos
 ghost use Rattle.loop_value.specs.Mission.{IsOf, IsPlanOf, IsPrepared};
 
 use crate::mission::Machine;
-use beat_ladder::{BlockRoom, Ladder};
+use beat_ladder::Ladder;
 use common_cause::events;
 use entry_rates::{entry_rates, up_states};
 use interval_fixed::ONE;
 use lumping::{Space, SpaceFault};
+use phase_run::PlaceRoom;
 use product_chain::Chain;
 use series_weights::Weights;
 use sil_model::Loop;
@@ -118,7 +119,7 @@ fn machine(
     let chain = Chain::new(alloc, l, &space, hours, beats_of(l, hours))?;
     let work = Workspace::new(alloc, space.size())?;
     let ladder = Ladder::new(alloc, beats_of_ladder(l, plan, space.size()))?;
-    let blocks = BlockRoom::new(alloc, space.size())?;
+    let places = PlaceRoom::new(alloc, l, &chain, space.size())?;
     let tests = Tests::new(alloc, l, &space)?;
     Ok(Machine {
         space,
@@ -127,7 +128,7 @@ fn machine(
         weights: Weights::new(order),
         work,
         ladder,
-        blocks,
+        places,
         tests,
     })
 }

@@ -2,3 +2,4 @@ pub mod Beats
 pub mod Means
 pub mod Passes
 pub mod Ends
+pub mod OverPlaces

@@ -16,57 +16,59 @@ use Rattle.block_laws.proofs.Phases.{after_none, dwelt_none, after_more, dwelt_m
 use Rattle.beat_ladder.specs.Losses.{block_loss, block_dwell_loss, block_products}
 use Rattle.product_chain.specs.Kept.{ChainValue}
 use Rattle.uniformise.specs.Beat.{hours_of_beat, IsStep, tick_loss, tick_products, vector_loss, dwell_loss, beat_products}
-use Rattle.phase_run.specs.Passes.{Passes, block_beat_loss}
+use Rattle.phase_run.specs.Passes.{PassesBy, Passes, beat_loss_in_blocks, block_beat_loss, beat_products_in_blocks}
 
--- no beat
-pub passes_none : (c : ChainValue) (order loss : ℕ) (v old : List ℕ) → Passes c order loss 0 v v old old
-passes_none c order loss v old = record {
-  size = refl;
-  ended = after_none (IsStep c) order v;
-  dwelt = dwelt_none (IsStep c) order v old;
-  kept = omega arith;
-  lack = omega arith;
-  dwell_kept = omega arith;
-  dwell_lack = omega arith;
-  grows = λ k h. (omega arith, omega arith);
-}
+-- of any step
+module _ (B : (Values ℕ → Values ℕ) → Type 0) where
+  -- no beat
+  pub passes_none : (order loss : ℕ) (v old : List ℕ) → PassesBy B order loss 0 v v old old
+  passes_none order loss v old = record {
+    size = refl;
+    ended = after_none B order v;
+    dwelt = dwelt_none B order v old;
+    kept = omega arith;
+    lack = omega arith;
+    dwell_kept = omega arith;
+    dwell_lack = omega arith;
+    grows = λ k h. (omega arith, omega arith);
+  }
 
--- what a dwell lacks after m beats and n more, of which each loses B of the vector
-lacks_more : (s u x y z m n B : ℕ) → s ≤ u + m * B → x + m * s ≤ y + m * m * B → y + n * u ≤ z + n * n * B
-    → x + (m + n) * s ≤ z + (m + n) * (m + n) * B
-lacks_more s u x y z m n B lack first second = omega (arith, mul-le-mul_left n lack, first, second)
+  -- what a dwell lacks after m beats and n more, of which each loses B of the vector
+  lacks_more : (s u x y z m n b : ℕ) → s ≤ u + m * b → x + m * s ≤ y + m * m * b → y + n * u ≤ z + n * n * b
+      → x + (m + n) * s ≤ z + (m + n) * (m + n) * b
+  lacks_more s u x y z m n b lack first second = omega (arith, mul-le-mul_left n lack, first, second)
 
--- m beats and n more
-pub passes_more : (c : ChainValue) (order loss m n : ℕ) (v u w old mid new : List ℕ) → Passes c order loss m v u old mid → Passes c order loss n u w mid new
-    → Passes c order loss (m + n) v w old new
-passes_more c order loss m n v u w old mid new first second = record {
-  size = second.size ∙ first.size;
-  ended = after_more (IsStep c) order m n v u first.ended w second.ended;
-  dwelt = dwelt_more (IsStep c) order m n v u first.ended old mid new first.dwelt second.dwelt;
-  kept = omega (arith, first.kept, second.kept);
-  lack = omega (arith, first.lack, second.lack);
-  dwell_kept = omega (arith, first.dwell_kept, second.dwell_kept, mul-le-mul_left n first.kept);
-  dwell_lack = lacks_more (sum v) (sum u) (sum old) (sum mid) (sum new) m n loss first.lack first.dwell_lack second.dwell_lack;
-  grows = λ k h.
-      let inside : k < length mid = omega (arith, first.size) in (
-        omega (arith, (first.grows k h).0, (second.grows k inside).0),
-        omega (arith, (first.grows k h).1, (second.grows k inside).1),
-      );
-}
+  -- m beats and n more
+  pub passes_more : (order loss m n : ℕ) (v u w old mid new : List ℕ) → PassesBy B order loss m v u old mid → PassesBy B order loss n u w mid new
+      → PassesBy B order loss (m + n) v w old new
+  passes_more order loss m n v u w old mid new first second = record {
+    size = second.size ∙ first.size;
+    ended = after_more B order m n v u first.ended w second.ended;
+    dwelt = dwelt_more B order m n v u first.ended old mid new first.dwelt second.dwelt;
+    kept = omega (arith, first.kept, second.kept);
+    lack = omega (arith, first.lack, second.lack);
+    dwell_kept = omega (arith, first.dwell_kept, second.dwell_kept, mul-le-mul_left n first.kept);
+    dwell_lack = lacks_more (sum v) (sum u) (sum old) (sum mid) (sum new) m n loss first.lack first.dwell_lack second.dwell_lack;
+    grows = λ k h.
+        let inside : k < length mid = omega (arith, first.size) in (
+          omega (arith, (first.grows k h).0, (second.grows k inside).0),
+          omega (arith, (first.grows k h).1, (second.grows k inside).1),
+        );
+  }
 
--- a greater order, and a greater bound on what a beat loses
-pub passes_raised : (c : ChainValue) (order above loss most m : ℕ) (v u old new : List ℕ) → order ≤ above → loss ≤ most → Passes c order loss m v u old new
-    → Passes c above most m v u old new
-passes_raised c order above loss most m v u old new higher greater p = record {
-  size = p.size;
-  ended = record { weighed = λ T t b N within f. p.ended.weighed T t b N (omega arith) f };
-  dwelt = record { weighed = λ T t b N within f. p.dwelt.weighed T t b N (omega arith) f };
-  kept = p.kept;
-  lack = omega (arith, p.lack, mul-le-mul_left m greater);
-  dwell_kept = p.dwell_kept;
-  dwell_lack = omega (arith, p.dwell_lack, mul-le-mul_left (m * m) greater);
-  grows = p.grows;
-}
+  -- a greater order, and a greater bound on what a beat loses
+  pub passes_raised : (order above loss most m : ℕ) (v u old new : List ℕ) → order ≤ above → loss ≤ most → PassesBy B order loss m v u old new
+      → PassesBy B above most m v u old new
+  passes_raised order above loss most m v u old new higher greater p = record {
+    size = p.size;
+    ended = record { weighed = λ T t b N within f. p.ended.weighed T t b N (omega arith) f };
+    dwelt = record { weighed = λ T t b N within f. p.dwelt.weighed T t b N (omega arith) f };
+    kept = p.kept;
+    lack = omega (arith, p.lack, mul-le-mul_left m greater);
+    dwell_kept = p.dwell_kept;
+    dwell_lack = omega (arith, p.dwell_lack, mul-le-mul_left (m * m) greater);
+    grows = p.grows;
+  }
 
 square : (order : ℕ) → order ^ 2 ≡ order * order
 square order =
@@ -125,21 +127,21 @@ block_dwell_lacks m loss size some =
     omega (arith, mul-le-mul_right loss pairs, mul-le-mul_right size many)
 
 -- a block of beats is so many of them
-module _ (c : ChainValue) (e : ℕ) (v after old new : List ℕ) where
-  pub passes_block : length new ≡ length old → IsAfter (IsStep c) 16 (2 ^ e) v after → IsDwelt (IsStep c) 16 (2 ^ e) v old new → sum after ≤ sum v
-      → sum v ≤ sum after + block_loss (2 ^ e) (tick_loss c.of.subsystems) (states_of c.of.subsystems)
+module _ (B : (Values ℕ → Values ℕ) → Type 0) (loss size e : ℕ) (v after old new : List ℕ) where
+  pub passes_block : length new ≡ length old → IsAfter B 16 (2 ^ e) v after → IsDwelt B 16 (2 ^ e) v old new → sum after ≤ sum v
+      → sum v ≤ sum after + block_loss (2 ^ e) loss size
       → sum new ≤ sum old + 2 ^ e * sum v
-      → sum old + 2 ^ e * sum v ≤ sum new + block_dwell_loss (2 ^ e) (tick_loss c.of.subsystems) (states_of c.of.subsystems)
+      → sum old + 2 ^ e * sum v ≤ sum new + block_dwell_loss (2 ^ e) loss size
       → ((k : ℕ) → k < length old → (slice_index old k ≤ slice_index new k) × (slice_index new k ≤ slice_index old k + 2 ^ e * 2 ^ 48))
-      → Passes c 16 (block_beat_loss c.of.subsystems) (2 ^ e) v after old new
-  passes_block size ends dwelt kept lack dwell_kept dwell_lack grows = record {
-    size = size;
+      → PassesBy B 16 (beat_loss_in_blocks loss size) (2 ^ e) v after old new
+  passes_block long ends dwelt kept lack dwell_kept dwell_lack grows = record {
+    size = long;
     ended = ends;
     dwelt = dwelt;
     kept = kept;
-    lack = omega (arith, lack, block_lacks (2 ^ e) (tick_loss c.of.subsystems) (states_of c.of.subsystems) (pow_pos e));
+    lack = omega (arith, lack, block_lacks (2 ^ e) loss size (pow_pos e));
     dwell_kept = dwell_kept;
-    dwell_lack = omega (arith, dwell_lack, block_dwell_lacks (2 ^ e) (tick_loss c.of.subsystems) (states_of c.of.subsystems) (pow_pos e));
+    dwell_lack = omega (arith, dwell_lack, block_dwell_lacks (2 ^ e) loss size (pow_pos e));
     grows = grows;
   }
 
@@ -147,12 +149,16 @@ doubled : (n : ℕ) → 2 ^ suc n ≡ 2 * 2 ^ n
 doubled n = omega arith
 
 -- and makes no more products
-pub block_products_within : (us : List Subsystem) (e : ℕ) → 0 < e → block_products (2 ^ e) (tick_products us) (states_of us) ≤ 2 ^ e * beat_products us 16
-block_products_within us e several =
+pub block_products_within : (products size e : ℕ) → 0 < e → block_products (2 ^ e) products size ≤ 2 ^ e * beat_products_in_blocks products size
+block_products_within products size e several =
     let one : suc (e - 1) ≡ e = omega arith in
     let twice : 2 ^ e ≡ 2 * 2 ^ (e - 1) = rw one at (doubled (e - 1)) in
     let two : 2 ≤ 2 ^ e = omega (arith, twice, pow_pos (e - 1)) in
-    omega (arith, mul-le-mul_right (states_of us) two)
+    omega (arith, mul-le-mul_right size two)
+
+-- as many as by order 16
+pub products_of_beat : (us : List Subsystem) (size : ℕ) → size ≤ states_of us → beat_products_in_blocks (tick_products us) size ≤ beat_products us 16
+products_of_beat us size few = omega (arith, few)
 
 -- the products of beats by order 16 are no more than by a greater one
 pub products_within : (us : List Subsystem) (order : ℕ) → 16 ≤ order → beat_products us 16 ≤ beat_products us order
@@ -175,8 +181,8 @@ module _ (c : ChainValue) (order beats left : ℕ) (least : 16 ≤ order) (few :
   passes_joined v u w old mid new blocks rest =
       let all : (beats - left) + left ≡ beats = omega arith in
       rw all at
-      (passes_more c order (beat_loss_of c.of.subsystems order) (beats - left) left v u w old mid new
-      (passes_raised c 16 order (block_beat_loss c.of.subsystems) (beat_loss_of c.of.subsystems order) (beats - left) v u old mid least
+      (passes_more (IsStep c) order (beat_loss_of c.of.subsystems order) (beats - left) left v u w old mid new
+      (passes_raised (IsStep c) 16 order (block_beat_loss c.of.subsystems) (beat_loss_of c.of.subsystems order) (beats - left) v u old mid least
       (block_loss_within c.of.subsystems order least) blocks) rest)
 
   pub products_joined : (a s b : ℕ) → s ≤ a + (beats - left) * beat_products c.of.subsystems 16

@@ -1,4 +1,4 @@
-//! The beats of a phase by a ladder.
+//! The beats of a phase by a ladder, over the places that hold mass.
 
 ghost use Rattle.std.specs.Prelude.{◌≡◌, ℕ, ◌+◌, ◌*◌, ◌^◌, ◌<◌, ◌≤◌, length, sum, slice_index, All};
 ghost use Rattle.sil_fraction.specs.Fraction.{◌+ℚ◌, ◌*ℚ◌, ◌≤ℚ◌, whole, ratio};
@@ -9,22 +9,22 @@ ghost use Rattle.vector_laws.specs.Vectors.{weigh, IsMass};
 ghost use Rattle.lumped_laws.specs.ValueLists.{phase_list, phase_mean_list};
 ghost use Rattle.uniformise.specs.Beat.{beat_products};
 
-use crate::blocks::pass_blocks;
+use crate::places::PlaceRoom;
 use crate::{pass_beats, settle};
-use beat_ladder::{BlockRoom, Ladder};
+use beat_ladder::Ladder;
 use product_chain::Chain;
 use series_weights::Weights;
 use sil_model::Steps;
 use std::sync::ledger::Ledger;
 use uniformise::Workspace;
 
-/// Runs the beats of a phase of so many hours by the rungs of a ladder, and those that are left one by one: `v` becomes lower
-/// bounds of the vector at its end, `mean` lower bounds of its mean over the phase, and `dwell_hours` grows by lower bounds
+/// Runs the beats of a phase of so many hours by the rungs of a ladder, over the places that the vector reaches, and those
+/// that are left one by one: `v` becomes lower bounds of the vector at its end, `mean` lower bounds of its mean over the phase, and `dwell_hours` grows by lower bounds
 /// of hours times that mean. All are in units of 2^-48.
 #[allow(clippy::too_many_arguments)]
 pub fn run_phase_by_ladder<L: Ledger>(
     ladder: &Ladder,
-    room: &mut BlockRoom,
+    places: &mut PlaceRoom,
     work: &mut Workspace,
     chain: &Chain,
     weights: &Weights,
@@ -37,14 +37,14 @@ pub fn run_phase_by_ladder<L: Ledger>(
 )
     requires beats { beats ≡ chain.now.beats }
     requires hours { hours ≡ chain.now.hours }
-    requires blocks { room.old ≡ states_of chain.now.of.subsystems }
+    requires places { places.old ≡ chain.now.of }
     requires work { work.old ≡ states_of chain.now.of.subsystems }
     requires v { length v.old ≡ states_of chain.now.of.subsystems }
     requires mean { length mean.old ≡ states_of chain.now.of.subsystems }
     requires dwell { length dwell_hours.old ≡ states_of chain.now.of.subsystems }
     requires mass { IsMass v.old }
     requires room { All (λ x. x + hours * 2 ^ 48 ≤ 350_400 * 2 ^ 48) dwell_hours.old }
-    ensures blocks { room.new ≡ room.old }
+    ensures places { places.new ≡ places.old }
     ensures work { work.new ≡ work.old }
 
     // by every value list, at every order from that of the weights on
@@ -66,7 +66,7 @@ pub fn run_phase_by_ladder<L: Ledger>(
     prove!(beats == chain.beats());
     prove!(weights.order() >= 16);
     mean.fill(0);
-    let left = pass_blocks(ladder, room, chain, beats, v, mean, steps);
+    let left = places.pass_blocks(ladder, chain, beats, v, mean, steps);
     pass_beats(work, chain, weights, left, v, mean, steps);
     settle(mean, beats, hours, dwell_hours);
 }

@@ -1,11 +1,13 @@
 //! The beats of a phase, and the mean over it.
 //!
 //! [`run_phase`] pushes a vector through all beats of a phase, from one test hour to the next. [`run_phase_by_ladder`] does
-//! the same by blocks of many beats: fewer ticks, and the same clauses. Neither takes memory.
+//! the same by blocks of many beats, over the places that the vector reaches: fewer and smaller ticks, and the same clauses.
+//! Neither takes memory; a [`PlaceRoom`] is made before.
 #![tactic(auto)]
 
 mod blocks;
 mod by_ladder;
+mod places;
 #[cfg(test)]
 mod tests;
 
@@ -21,6 +23,7 @@ ghost use Rattle.uniformise.specs.Beat.{beat_products};
 ghost use Rattle.phase_run.specs.Passes.{Passes};
 
 pub use by_ladder::run_phase_by_ladder;
+pub use places::PlaceRoom;
 use product_chain::Chain;
 use series_weights::Weights;
 use sil_model::Steps;

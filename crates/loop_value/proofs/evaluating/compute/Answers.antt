@@ -25,3 +25,6 @@ returns-in_err-figures-clause-refused g c = on_error c.from_residual-in_err-figu
 
 pub returns-in_err-parts-clause-refused : goal.returns-in_err-parts-clause-refused
 returns-in_err-parts-clause-refused g c = on_error c.from_residual.result (fed_none c.args.l.now c.args.order c.args.asked _)
+
+pub evaluate-requires-clause-rates_within : goal.evaluate-requires-clause-rates_within
+evaluate-requires-clause-rates_within g c i = rw c.as_slice-2.ensures.value (c.in_ok-parts.ensures.rates_within i)

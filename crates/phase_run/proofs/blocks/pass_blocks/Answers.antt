@@ -1,6 +1,6 @@
 use Rattle.std.proofs.Common.{◌≡◌, ℕ, ◌+◌, ◌-◌, ◌*◌, ◌/◌, ◌%◌, ◌^◌, ◌<◌, ◌≤◌, length, refl, ◌∙◌, arith}
-use Rattle.uniformise.specs.Beat.{beat_products}
-use Rattle.phase_run.specs.Passes.{block_beat_loss}
+use Rattle.beat_ladder.specs.Losses.{IsStep}
+use Rattle.phase_run.specs.Passes.{beat_loss_in_blocks, beat_products_in_blocks}
 use Rattle.phase_run.proofs.Passes.{passes_none, passes_more, counted_more, used}
 use Rattle.phase_run.proofs.blocks.pass_blocks.Goals as goal
 
@@ -10,7 +10,7 @@ loop-exponent-init g c =
     record {
       room = refl;
       left = omega arith;
-      passes = rw none (passes_none c.args.chain.now 16 (block_beat_loss c.args.chain.now.of.subsystems) c.args.v.now c.args.dwell.now);
+      passes = rw none (passes_none (IsStep (g.T.Tick.step c.args.tick.now)) 16 (beat_loss_in_blocks (g.T.Tick.loss c.args.tick.now) (g.T.Tick.size c.args.tick.now)) c.args.v.now c.args.dwell.now);
       counted = omega arith;
     }
 
@@ -28,7 +28,6 @@ pass_rung-requires-clause-room g c = λ k h.
 
 pub loop-exponent-preserved : goal.loop-exponent-preserved
 loop-exponent-preserved g c =
-    let us = c.args.chain.now.of.subsystems in
     let beats : c.from-beats_of_rung.result ≡ 2 ^ c.rung-rung.result.now.exponent = c.from-beats_of_rung.ensures ∙ c.beats.ensures.value in
     let all : c.loop-exponent.left / c.from-beats_of_rung.result * 2 ^ c.rung-rung.result.now.exponent + c.loop-exponent.left % c.from-beats_of_rung.result
     ≡ c.loop-exponent.left = used c.loop-exponent.left c.from-beats_of_rung.result (2 ^ c.rung-rung.result.now.exponent) beats in
@@ -38,10 +37,10 @@ loop-exponent-preserved g c =
     record {
       room = c.pass_rung.ensures.size ∙ c.loop-exponent.invariant.room;
       left = omega (arith, all, c.loop-exponent.invariant.left);
-      passes = rw next (passes_more c.args.chain.now 16 (block_beat_loss us) (c.args.beats - c.loop-exponent.left)
+      passes = rw next (passes_more (IsStep (g.T.Tick.step c.args.tick.now)) 16 (beat_loss_in_blocks (g.T.Tick.loss c.args.tick.now) (g.T.Tick.size c.args.tick.now)) (c.args.beats - c.loop-exponent.left)
           (c.loop-exponent.left / c.from-beats_of_rung.result * 2 ^ c.rung-rung.result.now.exponent) c.args.v.now c.loop-exponent.v c.pass_rung.new.v
           c.args.dwell.now c.loop-exponent.dwell c.pass_rung.new.dwell c.loop-exponent.invariant.passes c.pass_rung.ensures.passes);
       counted = rw next (counted_more c.args.steps.now c.pass_rung.new.steps c.loop-exponent.steps (c.args.beats - c.loop-exponent.left)
           (c.loop-exponent.left / c.from-beats_of_rung.result * 2 ^ c.rung-rung.result.now.exponent)
-          (beat_products us 16) c.loop-exponent.invariant.counted c.pass_rung.ensures.steps);
+          (beat_products_in_blocks (g.T.Tick.products c.args.tick.now) (g.T.Tick.size c.args.tick.now)) c.loop-exponent.invariant.counted c.pass_rung.ensures.steps);
     }

@@ -1,10 +1,8 @@
 use Rattle.std.proofs.Common.{◌≡◌, ℕ, ◌+◌, ◌*◌, ◌^◌, ◌<◌, ◌≤◌, length, refl, ◌∙◌, arith}
 use Rattle.std.proofs.Math.Nat.{mul-le-mul_right}
 use Rattle.std.proofs.lemmas.Grind.{get_or_default_zero}
-use Rattle.uniformise.specs.Beat.{tick_products, beat_products}
-use Rattle.beat_ladder.specs.Losses.{block_products}
-use Rattle.sil_model.specs.Sizes.{states_of}
-use Rattle.phase_run.specs.Passes.{block_beat_loss}
+use Rattle.beat_ladder.specs.Losses.{IsStep}
+use Rattle.phase_run.specs.Passes.{beat_loss_in_blocks, beat_products_in_blocks}
 use Rattle.phase_run.proofs.Passes.{passes_none, passes_more, passes_block, block_products_within, counted_more}
 use Rattle.phase_run.proofs.blocks.pass_rung.Goals as goal
 
@@ -13,7 +11,7 @@ loop-init g c =
     let none : 0 * 2 ^ c.args.rung.now.exponent ≡ 0 = omega arith in
     record {
       room = refl;
-      passes = rw none (passes_none c.args.chain.now 16 (block_beat_loss c.args.chain.now.of.subsystems) c.args.v.now c.args.dwell.now);
+      passes = rw none (passes_none (IsStep (g.T.Tick.step c.args.tick.now)) 16 (beat_loss_in_blocks (g.T.Tick.loss c.args.tick.now) (g.T.Tick.size c.args.tick.now)) c.args.v.now c.args.dwell.now);
       counted = omega arith;
     }
 
@@ -31,16 +29,15 @@ pass-requires-clause-room g c = λ k d h.
 
 pub loop-preserved : goal.loop-preserved
 loop-preserved g c =
-    let us = c.args.chain.now.of.subsystems in
     let m : ℕ = 2 ^ c.args.rung.now.exponent in
     let next : (c.loop.counter + 1) * 2 ^ c.args.rung.now.exponent ≡ c.loop.counter * 2 ^ c.args.rung.now.exponent + 2 ^ c.args.rung.now.exponent = omega arith in
-    let steps : c.pass.new.steps ≤ c.loop.steps + 2 ^ c.args.rung.now.exponent * beat_products c.args.chain.now.of.subsystems 16 =
-    omega (arith, c.pass.ensures.steps, block_products_within c.args.chain.now.of.subsystems c.args.rung.now.exponent c.requires.several) in
+    let steps : c.pass.new.steps ≤ c.loop.steps + 2 ^ c.args.rung.now.exponent * beat_products_in_blocks (g.T.Tick.products c.args.tick.now) (g.T.Tick.size c.args.tick.now) =
+    omega (arith, c.pass.ensures.steps, block_products_within (g.T.Tick.products c.args.tick.now) (g.T.Tick.size c.args.tick.now) c.args.rung.now.exponent c.requires.several) in
     record {
       room = c.pass.ensures.size ∙ c.loop.invariant.room;
-      passes = rw next (passes_more c.args.chain.now 16 (block_beat_loss us) (c.loop.counter * m) m c.args.v.now c.loop.v c.pass.new.v c.args.dwell.now
+      passes = rw next (passes_more (IsStep (g.T.Tick.step c.args.tick.now)) 16 (beat_loss_in_blocks (g.T.Tick.loss c.args.tick.now) (g.T.Tick.size c.args.tick.now)) (c.loop.counter * m) m c.args.v.now c.loop.v c.pass.new.v c.args.dwell.now
           c.loop.dwell c.pass.new.dwell c.loop.invariant.passes
-          (passes_block c.args.chain.now c.args.rung.now.exponent c.loop.v c.pass.new.v c.loop.dwell c.pass.new.dwell (omega arith) c.pass.ensures.after
+          (passes_block (IsStep (g.T.Tick.step c.args.tick.now)) (g.T.Tick.loss c.args.tick.now) (g.T.Tick.size c.args.tick.now) c.args.rung.now.exponent c.loop.v c.pass.new.v c.loop.dwell c.pass.new.dwell (omega arith) c.pass.ensures.after
           c.pass.ensures.dwelt c.pass.ensures.kept c.pass.ensures.lack c.pass.ensures.dwell_kept c.pass.ensures.dwell_lack c.pass.ensures.grows));
-      counted = rw next (counted_more c.args.steps.now c.pass.new.steps c.loop.steps (c.loop.counter * m) m (beat_products us 16) c.loop.invariant.counted steps);
+      counted = rw next (counted_more c.args.steps.now c.pass.new.steps c.loop.steps (c.loop.counter * m) m (beat_products_in_blocks (g.T.Tick.products c.args.tick.now) (g.T.Tick.size c.args.tick.now)) c.loop.invariant.counted steps);
     }
