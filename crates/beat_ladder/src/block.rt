@@ -14,12 +14,7 @@ use sil_model::Steps;
 use std::sync::ledger::Ledger;
 
 /// One tick in place; `next` is room for it.
-fn step<T: Tick, L: Ledger>(
-    tick: &T,
-    now: &mut [u128],
-    next: &mut [u128],
-    steps: &mut Steps<L>,
-)
+fn step<T: Tick, L: Ledger>(tick: &T, now: &mut [u128], next: &mut [u128], steps: &mut Steps<L>)
     requires now { length now.old ≡ T.size tick.now }
     requires next { length next.old ≡ T.size tick.now }
     requires mass { IsMass now.old }

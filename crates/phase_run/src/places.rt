@@ -39,12 +39,7 @@ impl Model for PlaceRoom {
 
 impl PlaceRoom {
     /// Room for the vectors of a chain of a loop, which have this size.
-    pub fn new(
-        alloc: Global,
-        l: &Loop,
-        chain: &Chain,
-        size: usize,
-    ) -> Result<PlaceRoom, AllocError>
+    pub fn new(alloc: Global, l: &Loop, chain: &Chain, size: usize) -> Result<PlaceRoom, AllocError>
         requires same { l.now ≡ chain.now.of }
         requires size { size ≡ states_of chain.now.of.subsystems }
         ensures { IfOk result (λ r. r ≡ chain.now.of) }
