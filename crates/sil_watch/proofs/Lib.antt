@@ -2,3 +2,4 @@ pub mod SeriesLines
 pub mod FixedBy
 pub mod Lists
 pub mod Folds
+pub mod Pieces

@@ -8,11 +8,13 @@
 #![tactic(auto)]
 
 mod feeding;
+mod putting;
 mod record;
 mod series;
 mod watcher;
 
 pub use feeding::{any_asked, feed, is_asked};
+pub use putting::put_lines;
 pub use record::PhaseRecord;
 pub use series::{Series, lines_fix_records};
 pub use watcher::Watcher;

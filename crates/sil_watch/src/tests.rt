@@ -4,7 +4,7 @@ ghost use Rattle.std.specs.Prelude.{◌≡◌, [], ◌∷◌, OnOk, OnErr, IfOk}
 ghost use Rattle.sil_watch.specs.Watching.{WatcherValue, fed_with};
 ghost use Rattle.sil_watch.specs.Lines.{IsLineAt};
 
-use crate::{PhaseRecord, Series, Watcher, feed};
+use crate::{PhaseRecord, Series, Watcher, feed, put_lines};
 use sil_model::Decimal18;
 use std::alloc::{AllocError, Global};
 use std::test::Fail;
@@ -65,5 +65,22 @@ fn watchers_that_are_asked_for_are_fed(rt: HostRuntime) -> Result<(), Fail> {
     feed(all.as_mut_slice(), 3, &record(1))?;
     assert_eq!(rt; lines(alloc, &all[0])?.as_slice(), FIRST);
     assert_eq!(rt; lines(alloc, &all[1])?.as_slice(), FIRST);
+    Ok(())
+}
+
+#[test]
+fn lines_of_those_that_are_asked_for(rt: HostRuntime) -> Result<(), Fail> {
+    let alloc = rt.alloc();
+    let mut all: Vec<Box<dyn Watcher>> = Vec::new(alloc);
+    all.push(Box::new(alloc, Series::new(alloc))?)?;
+    feed(all.as_mut_slice(), 1, &record(1))?;
+    feed(all.as_mut_slice(), 1, &record(2))?;
+    let mut out = [b'>'].to_vec(alloc)?;
+    put_lines(all.as_slice(), 2, &mut out)?;
+    assert_eq!(rt; out.as_slice(), b">".as_slice());
+    put_lines(all.as_slice(), 1, &mut out)?;
+    let text = std::str::from_utf8(out.as_slice()).map_err(|_| "no text")?;
+    assert_eq!(rt; text.lines().count(), 2);
+    assert!(rt; text[1..].as_bytes().starts_with(FIRST));
     Ok(())
 }
