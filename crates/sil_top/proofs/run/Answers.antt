@@ -11,13 +11,13 @@ use Rattle.sil_top.proofs.run.Goals as goal
 
 pub write_text-requires : goal.write_text-requires
 write_text-requires g c = λ e.
-    subst IsTold e (told g.S.Shelf.tells (g.S.Shelf.file c.args.shelf.now) (g.S.Shelf.handed c.answer_to.new.shelf) (map string_bytes c.args.words.now) _ c.in-Ok.ensures.answer)
+    subst IsTold e (told _ g.S.Shelf.tells (g.S.Shelf.file c.args.shelf.now) (g.S.Shelf.handed c.answer_to.new.shelf) (map string_bytes c.args.words.now) _ c.in-Ok.ensures.answer)
 
 pub returns-in-Ok-clause-headline : goal.returns-in-Ok-clause-headline
 returns-in-Ok-clause-headline g c = λ e. elim c.write_text.ensures.one_of_two [
   | inl same ↦ (
     c.deref.result.now,
-    under g.S.Shelf.tells (g.S.Shelf.file c.args.shelf.now) (g.S.Shelf.handed c.answer_to.new.shelf) (map string_bytes c.args.words.now) _ _ _ _ (sym same ∙ e) (sym c.deref.ensures.value) c.in-Ok.ensures.answer,
+    under _ g.S.Shelf.tells (g.S.Shelf.file c.args.shelf.now) (g.S.Shelf.handed c.answer_to.new.shelf) (map string_bytes c.args.words.now) _ _ _ _ (sym same ∙ e) (sym c.deref.ensures.value) c.in-Ok.ensures.answer,
     c.write_text.ensures.all_taken same,
     c.write_text.ensures.whole same,
   )
@@ -28,7 +28,7 @@ pub returns-in-Ok-clause-not_shown : goal.returns-in-Ok-clause-not_shown
 returns-in-Ok-clause-not_shown g c = λ e. elim c.write_text.ensures.one_of_two [
   | inl same ↦ (
     c.deref.result.now,
-    under g.S.Shelf.tells (g.S.Shelf.file c.args.shelf.now) (g.S.Shelf.handed c.answer_to.new.shelf) (map string_bytes c.args.words.now) _ _ _ _ (sym same ∙ e) (sym c.deref.ensures.value) c.in-Ok.ensures.answer,
+    under _ g.S.Shelf.tells (g.S.Shelf.file c.args.shelf.now) (g.S.Shelf.handed c.answer_to.new.shelf) (map string_bytes c.args.words.now) _ _ _ _ (sym same ∙ e) (sym c.deref.ensures.value) c.in-Ok.ensures.answer,
     c.write_text.ensures.all_taken same,
     c.write_text.ensures.whole same,
   )
@@ -37,13 +37,13 @@ returns-in-Ok-clause-not_shown g c = λ e. elim c.write_text.ensures.one_of_two 
 
 pub returns-in-Ok-clause-read_fault : goal.returns-in-Ok-clause-read_fault
 returns-in-Ok-clause-read_fault g c = λ e. elim c.write_text.ensures.one_of_two [
-  | inl same ↦ absurd (subst IsTold (sym same ∙ e) (told g.S.Shelf.tells (g.S.Shelf.file c.args.shelf.now) (g.S.Shelf.handed c.answer_to.new.shelf) (map string_bytes c.args.words.now) _ c.in-Ok.ensures.answer))
+  | inl same ↦ absurd (subst IsTold (sym same ∙ e) (told _ g.S.Shelf.tells (g.S.Shelf.file c.args.shelf.now) (g.S.Shelf.handed c.answer_to.new.shelf) (map string_bytes c.args.words.now) _ c.in-Ok.ensures.answer))
   | inr fault ↦ let none : ⊥ = cc in absurd none
 ]
 
 pub returns-in-Ok-clause-memory : goal.returns-in-Ok-clause-memory
 returns-in-Ok-clause-memory g c = λ e. elim c.write_text.ensures.one_of_two [
-  | inl same ↦ absurd (subst IsTold (sym same ∙ e) (told g.S.Shelf.tells (g.S.Shelf.file c.args.shelf.now) (g.S.Shelf.handed c.answer_to.new.shelf) (map string_bytes c.args.words.now) _ c.in-Ok.ensures.answer))
+  | inl same ↦ absurd (subst IsTold (sym same ∙ e) (told _ g.S.Shelf.tells (g.S.Shelf.file c.args.shelf.now) (g.S.Shelf.handed c.answer_to.new.shelf) (map string_bytes c.args.words.now) _ c.in-Ok.ensures.answer))
   | inr fault ↦ let none : ⊥ = cc in absurd none
 ]
 
@@ -63,12 +63,12 @@ returns-in-Err-Usage-clause-write_fault g c = λ e.
 pub returns-in-Ok-clause-complete : goal.returns-in-Ok-clause-complete
 returns-in-Ok-clause-complete g c = λ sound shelf sink. elim c.write_text.ensures.one_of_two [
   | inl same ↦
-      let given = given_sound g.S.Shelf.tells (g.S.Shelf.file c.args.shelf.now) (g.S.Shelf.handed c.answer_to.new.shelf) (map string_bytes c.args.words.now) sound _ c.in-Ok.ensures.answer in
+      let given = given_sound _ g.S.Shelf.tells (g.S.Shelf.file c.args.shelf.now) (g.S.Shelf.handed c.answer_to.new.shelf) (map string_bytes c.args.words.now) sound _ c.in-Ok.ensures.answer in
       inr (
         done_or_not_shown _ (subst IsGiven (sym same) given),
         (
           c.deref.result.now,
-          under g.S.Shelf.tells (g.S.Shelf.file c.args.shelf.now) (g.S.Shelf.handed c.answer_to.new.shelf) (map string_bytes c.args.words.now) _ _ _ _ (sym same) (sym c.deref.ensures.value) c.in-Ok.ensures.answer,
+          under _ g.S.Shelf.tells (g.S.Shelf.file c.args.shelf.now) (g.S.Shelf.handed c.answer_to.new.shelf) (map string_bytes c.args.words.now) _ _ _ _ (sym same) (sym c.deref.ensures.value) c.in-Ok.ensures.answer,
           c.write_text.ensures.all_taken same,
           c.write_text.ensures.whole same,
         ),
@@ -83,11 +83,11 @@ returns-in-Err-Usage-clause-complete g c = λ sound shelf sink.
 
 pub returns-in-Err-TooLong-clause-complete : goal.returns-in-Err-TooLong-clause-complete
 returns-in-Err-TooLong-clause-complete g c = λ sound shelf sink.
-    absurd (given_sound g.S.Shelf.tells (g.S.Shelf.file c.args.shelf.now) (g.S.Shelf.handed c.answer_to.new.shelf) (map string_bytes c.args.words.now) sound (refused_by too_long_line) (rw c.in-Err-TooLong.field-0-is at c.in-Err-TooLong.ensures.cause))
+    absurd (given_sound _ g.S.Shelf.tells (g.S.Shelf.file c.args.shelf.now) (g.S.Shelf.handed c.answer_to.new.shelf) (map string_bytes c.args.words.now) sound (refused_by too_long_line) (rw c.in-Err-TooLong.field-0-is at c.in-Err-TooLong.ensures.cause))
 
 pub returns-in-Err-Refused-clause-complete : goal.returns-in-Err-Refused-clause-complete
 returns-in-Err-Refused-clause-complete g c = λ sound shelf sink.
-    absurd (given_sound g.S.Shelf.tells (g.S.Shelf.file c.args.shelf.now) (g.S.Shelf.handed c.answer_to.new.shelf) (map string_bytes c.args.words.now) sound (refused_by c.in-Err-Refused.line.items) (rw c.in-Err-Refused.field-0-is at c.in-Err-Refused.ensures.cause))
+    absurd (given_sound _ g.S.Shelf.tells (g.S.Shelf.file c.args.shelf.now) (g.S.Shelf.handed c.answer_to.new.shelf) (map string_bytes c.args.words.now) sound (refused_by c.in-Err-Refused.line.items) (rw c.in-Err-Refused.field-0-is at c.in-Err-Refused.ensures.cause))
 
 pub returns-in-Err-Read-clause-complete : goal.returns-in-Err-Read-clause-complete
 returns-in-Err-Read-clause-complete g c = λ sound shelf sink.
@@ -101,18 +101,18 @@ returns-in-Err-Memory-clause-complete g c = λ sound shelf sink. inl refl
 
 pub returns-in-Ok-clause-noted : goal.returns-in-Ok-clause-noted
 returns-in-Ok-clause-noted g c = λ e. elim c.write_text.ensures.one_of_two [
-  | inl same ↦ absurd (subst IsTold (sym same ∙ e) (told g.S.Shelf.tells (g.S.Shelf.file c.args.shelf.now) (g.S.Shelf.handed c.answer_to.new.shelf) (map string_bytes c.args.words.now) _ c.in-Ok.ensures.answer))
+  | inl same ↦ absurd (subst IsTold (sym same ∙ e) (told _ g.S.Shelf.tells (g.S.Shelf.file c.args.shelf.now) (g.S.Shelf.handed c.answer_to.new.shelf) (map string_bytes c.args.words.now) _ c.in-Ok.ensures.answer))
   | inr fault ↦ let none : ⊥ = cc in absurd none
 ]
 
 pub returns-in-Ok-clause-fault_of_name : goal.returns-in-Ok-clause-fault_of_name
 returns-in-Ok-clause-fault_of_name g c = λ e a asks. elim c.write_text.ensures.one_of_two [
-  | inl same ↦ absurd (subst IsTold (sym same ∙ e) (told g.S.Shelf.tells (g.S.Shelf.file c.args.shelf.now) (g.S.Shelf.handed c.answer_to.new.shelf) (map string_bytes c.args.words.now) _ c.in-Ok.ensures.answer))
+  | inl same ↦ absurd (subst IsTold (sym same ∙ e) (told _ g.S.Shelf.tells (g.S.Shelf.file c.args.shelf.now) (g.S.Shelf.handed c.answer_to.new.shelf) (map string_bytes c.args.words.now) _ c.in-Ok.ensures.answer))
   | inr fault ↦ let none : ⊥ = cc in absurd none
 ]
 
 pub returns-in-Ok-clause-calm_reads : goal.returns-in-Ok-clause-calm_reads
 returns-in-Ok-clause-calm_reads g c = λ calm held e. elim c.write_text.ensures.one_of_two [
-  | inl same ↦ subst IsTold (sym same ∙ e) (told g.S.Shelf.tells (g.S.Shelf.file c.args.shelf.now) (g.S.Shelf.handed c.answer_to.new.shelf) (map string_bytes c.args.words.now) _ c.in-Ok.ensures.answer)
+  | inl same ↦ subst IsTold (sym same ∙ e) (told _ g.S.Shelf.tells (g.S.Shelf.file c.args.shelf.now) (g.S.Shelf.handed c.answer_to.new.shelf) (map string_bytes c.args.words.now) _ c.in-Ok.ensures.answer)
   | inr fault ↦ let none : ⊥ = cc in none
 ]
