@@ -1,18 +1,17 @@
 -- Sound words and a sound file call for no refusal.
-use Rattle.std.proofs.Common.{◌≡◌, ◌∙◌, ℕ, ◌≤◌, ◌<◌, Bool, true, false, IsTrue, List, length, Option, Some, None, if◌then◌else◌, inl, inr, ◌⊎◌, refl, sym, ap, subst, arith, zero, suc}
+use Rattle.std.proofs.Common.{◌≡◌, ◌∙◌, ℕ, ◌<◌, Bool, true, false, IsTrue, List, length, Option, Some, None, if◌then◌else◌, inl, inr, ◌⊎◌, refl, sym, ap, subst, arith, zero, suc}
 use Rattle.sil_model.specs.LoopValue.{LoopValue}
-use Rattle.sil_model.specs.Sizes.{first_limit_of, most_file_bytes}
-use Rattle.sil_model.specs.declared.answers.LimitFault.{LimitFault}
+use Rattle.sil_model.specs.Sizes.{first_limit_of}
 use Rattle.file_fault.specs.declared.FileFault.{FileFault}
 use Rattle.loop_file.specs.Tree.{tree_of}
-use Rattle.loop_file.specs.LoopFile.{IsLoopOf, HasFault, checks_of, loop_of, tree_fault}
+use Rattle.loop_file.specs.LoopFile.{IsLoopOf, HasFault, loop_of, tree_fault}
 use Rattle.sil_io.specs.Bytes.{OffersWhole}
 use Rattle.sil_io.specs.Faults.{CountsFault}
 use Rattle.sil_io.specs.Handed.{Handed}
 use Rattle.verb_table.specs.declared.verb.Verb.{Verb}
 use Rattle.verb_table.specs.declared.verb.Verb.TheVariants.{Check, Size, Gen, Bench}
 use Rattle.sil_watch.specs.Watching.{WatcherValue}
-use Rattle.sil_words.specs.Language.{Asks, IsInLanguage}
+use Rattle.sil_words.specs.Language.{Asks}
 use Rattle.sil_words.specs.declared.ask.Ask.{Ask}
 use Rattle.sil_top.specs.Complete.{IsQuiet, IsSound, IsSoundFile, IsOfferedOnce}
 use Rattle.sil_top.specs.Run.{Outcome, is_shown, takes_file, IsReported, IsSized, IsOverLimit, IsOfFile, IsFileOf, IsFaulty, IsTooLong, VerbCallsFor, CallsFor}

@@ -17,7 +17,7 @@ pub returns-in-Ok-clause-headline : goal.returns-in-Ok-clause-headline
 returns-in-Ok-clause-headline g c = λ e. elim c.write_text.ensures.one_of_two [
   | inl same ↦ (
     c.deref.result.now,
-    under _ g.S.Shelf.tells (g.S.Shelf.file c.args.shelf.now) (g.S.Shelf.handed c.answer_to.new.shelf) (map string_bytes c.args.words.now) _ _ _ _ (sym same ∙ e) (sym c.deref.ensures.value) c.in-Ok.ensures.answer,
+    under _ g.S.Shelf.tells (g.S.Shelf.file c.args.shelf.now) (g.S.Shelf.handed c.answer_to.new.shelf) (map string_bytes c.args.words.now) _ _ _ _ (sym same ∙ e) (sym c.deref.ensures.value) (rw c.as_mut_slice.ensures.value at c.in-Ok.ensures.answer),
     c.write_text.ensures.all_taken same,
     c.write_text.ensures.whole same,
   )
@@ -28,7 +28,7 @@ pub returns-in-Ok-clause-not_shown : goal.returns-in-Ok-clause-not_shown
 returns-in-Ok-clause-not_shown g c = λ e. elim c.write_text.ensures.one_of_two [
   | inl same ↦ (
     c.deref.result.now,
-    under _ g.S.Shelf.tells (g.S.Shelf.file c.args.shelf.now) (g.S.Shelf.handed c.answer_to.new.shelf) (map string_bytes c.args.words.now) _ _ _ _ (sym same ∙ e) (sym c.deref.ensures.value) c.in-Ok.ensures.answer,
+    under _ g.S.Shelf.tells (g.S.Shelf.file c.args.shelf.now) (g.S.Shelf.handed c.answer_to.new.shelf) (map string_bytes c.args.words.now) _ _ _ _ (sym same ∙ e) (sym c.deref.ensures.value) (rw c.as_mut_slice.ensures.value at c.in-Ok.ensures.answer),
     c.write_text.ensures.all_taken same,
     c.write_text.ensures.whole same,
   )
@@ -58,6 +58,39 @@ returns-in-Err-Usage-clause-write_fault g c = λ e.
       part.2,
     )
 
+pub returns-in-Ok-clause-write_fault : goal.returns-in-Ok-clause-write_fault
+returns-in-Ok-clause-write_fault g c = λ e.
+    let part = c.write_text.ensures.part e in (
+      _,
+      c.deref.result.now,
+      under _ g.S.Shelf.tells (g.S.Shelf.file c.args.shelf.now) (g.S.Shelf.handed c.answer_to.new.shelf) (map string_bytes c.args.words.now) _ _ _ _ refl (sym c.deref.ensures.value) (rw c.as_mut_slice.ensures.value at c.in-Ok.ensures.answer),
+      part.0,
+      part.1,
+      part.2,
+    )
+
+pub returns-in-Err-TooLong-clause-write_fault : goal.returns-in-Err-TooLong-clause-write_fault
+returns-in-Err-TooLong-clause-write_fault g c = λ e.
+    let part = c.write_text-in-Err-TooLong.ensures.part e in (
+      _,
+      c.too_long_text.result.now,
+      under _ g.S.Shelf.tells (g.S.Shelf.file c.args.shelf.now) (g.S.Shelf.handed c.answer_to.new.shelf) (map string_bytes c.args.words.now) _ _ _ _ refl (sym c.too_long_text.ensures) (rw c.as_mut_slice.ensures.value at (rw c.in-Err-TooLong.field-0-is at c.in-Err-TooLong.ensures.cause)),
+      part.0,
+      part.1,
+      part.2,
+    )
+
+pub returns-in-Err-Refused-clause-write_fault : goal.returns-in-Err-Refused-clause-write_fault
+returns-in-Err-Refused-clause-write_fault g c = λ e.
+    let part = c.write_text-in-Err-Refused.ensures.part e in (
+      _,
+      c.deref-in-Err-Refused.result.now,
+      under _ g.S.Shelf.tells (g.S.Shelf.file c.args.shelf.now) (g.S.Shelf.handed c.answer_to.new.shelf) (map string_bytes c.args.words.now) _ _ _ _ refl (sym c.deref-in-Err-Refused.ensures.value) (rw c.as_mut_slice.ensures.value at (rw c.in-Err-Refused.field-0-is at c.in-Err-Refused.ensures.cause)),
+      part.0,
+      part.1,
+      part.2,
+    )
+
 -- Completeness: each way that a run ends.
 
 pub returns-in-Ok-clause-complete : goal.returns-in-Ok-clause-complete
@@ -68,7 +101,7 @@ returns-in-Ok-clause-complete g c = λ sound shelf sink. elim c.write_text.ensur
         done_or_not_shown _ (subst IsGiven (sym same) given),
         (
           c.deref.result.now,
-          under _ g.S.Shelf.tells (g.S.Shelf.file c.args.shelf.now) (g.S.Shelf.handed c.answer_to.new.shelf) (map string_bytes c.args.words.now) _ _ _ _ (sym same) (sym c.deref.ensures.value) c.in-Ok.ensures.answer,
+          under _ g.S.Shelf.tells (g.S.Shelf.file c.args.shelf.now) (g.S.Shelf.handed c.answer_to.new.shelf) (map string_bytes c.args.words.now) _ _ _ _ (sym same) (sym c.deref.ensures.value) (rw c.as_mut_slice.ensures.value at c.in-Ok.ensures.answer),
           c.write_text.ensures.all_taken same,
           c.write_text.ensures.whole same,
         ),
@@ -93,9 +126,6 @@ pub returns-in-Err-Read-clause-complete : goal.returns-in-Err-Read-clause-comple
 returns-in-Err-Read-clause-complete g c = λ sound shelf sink.
     let stopped : CountsFault (g.S.Shelf.faults c.args.shelf.now) (g.S.Shelf.faults c.answer_to.new.shelf) = (rw c.in-Err-Read.field-0-is at c.in-Err-Read.ensures.cause).1 in
     absurd (no_fault _ _ shelf stopped)
-
-pub returns-in-Err-Memory-clause-complete : goal.returns-in-Err-Memory-clause-complete
-returns-in-Err-Memory-clause-complete g c = λ sound shelf sink. inl refl
 
 -- No text stands for a read fault.
 
