@@ -3,6 +3,7 @@
 
 use sil_io::{FileShelf, OutSink};
 use sil_top::{Status, run};
+use sil_watch::{Series, Watcher};
 use std::io::ErrorKind;
 use std::process::ExitCode;
 
@@ -19,9 +20,16 @@ fn main(rt: HostRuntime) -> ExitCode {
             return exit_code(Status::Memory);
         }
     }
+    let Ok(series) = Box::new(rt.alloc(), Series::new(rt.alloc())) else {
+        return exit_code(Status::Memory);
+    };
+    let mut watchers: Vec<Box<dyn Watcher>> = Vec::new(rt.alloc());
+    if watchers.push(series).is_err() {
+        return exit_code(Status::Memory);
+    }
     let mut shelf = FileShelf::new(&rt);
     let mut sink = OutSink::new(&rt);
-    exit_code(run(rt.alloc(), &words, &mut shelf, &mut sink))
+    exit_code(run(rt.alloc(), &words, &mut shelf, &mut sink, watchers))
 }
 
 /// The exit status of the program is the number of its status.

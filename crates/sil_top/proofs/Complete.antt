@@ -1,17 +1,17 @@
 -- Sound words and a sound file call for no refusal.
-use Rattle.std.proofs.Common.{◌≡◌, ◌∙◌, ℕ, ◌≤◌, ◌<◌, Bool, true, false, IsTrue, List, length, Option, Some, None, if◌then◌else◌, inl, inr, ◌⊎◌, refl, sym, ap, subst, arith, zero, suc}
+use Rattle.std.proofs.Common.{◌≡◌, ◌∙◌, ℕ, ◌<◌, Bool, true, false, IsTrue, List, length, Option, Some, None, if◌then◌else◌, inl, inr, ◌⊎◌, refl, sym, ap, subst, arith, zero, suc}
 use Rattle.sil_model.specs.LoopValue.{LoopValue}
-use Rattle.sil_model.specs.Sizes.{first_limit_of, most_file_bytes}
-use Rattle.sil_model.specs.declared.answers.LimitFault.{LimitFault}
+use Rattle.sil_model.specs.Sizes.{first_limit_of}
 use Rattle.file_fault.specs.declared.FileFault.{FileFault}
 use Rattle.loop_file.specs.Tree.{tree_of}
-use Rattle.loop_file.specs.LoopFile.{IsLoopOf, HasFault, checks_of, loop_of, tree_fault}
+use Rattle.loop_file.specs.LoopFile.{IsLoopOf, HasFault, loop_of, tree_fault}
 use Rattle.sil_io.specs.Bytes.{OffersWhole}
 use Rattle.sil_io.specs.Faults.{CountsFault}
 use Rattle.sil_io.specs.Handed.{Handed}
 use Rattle.verb_table.specs.declared.verb.Verb.{Verb}
 use Rattle.verb_table.specs.declared.verb.Verb.TheVariants.{Check, Size, Gen, Bench}
-use Rattle.sil_words.specs.Language.{Asks, IsInLanguage}
+use Rattle.sil_watch.specs.Watching.{WatcherValue}
+use Rattle.sil_words.specs.Language.{Asks}
 use Rattle.sil_words.specs.declared.ask.Ask.{Ask}
 use Rattle.sil_top.specs.Complete.{IsQuiet, IsSound, IsSoundFile, IsOfferedOnce}
 use Rattle.sil_top.specs.Run.{Outcome, is_shown, takes_file, IsReported, IsSized, IsOverLimit, IsOfFile, IsFileOf, IsFaulty, IsTooLong, VerbCallsFor, CallsFor}
@@ -64,10 +64,10 @@ shown_or_not : (b : Bool) → IsGiven (if b then Done else NotShown)
 shown_or_not true = tt
 shown_or_not false = tt
 
-given_report : (a : Ask) (l : LoopValue) (o : Outcome) → IsReported a l o → IsGiven o.status
-given_report a l o r = by_status _ _ r.status (shown_or_not (is_shown a.need a.mode r.report.pfd.band r.report.pfh.band))
+given_report : (before : List WatcherValue) (a : Ask) (l : LoopValue) (o : Outcome) → IsReported before a l o → IsGiven o.status
+given_report before a l o r = by_status _ _ r.status (shown_or_not (is_shown a.need a.mode r.report.pfd.band r.report.pfh.band))
 
-module _ (tells : Bool) (file : List ℕ → Option (List ℕ)) (handed : Handed) where
+module _ (before : List WatcherValue) (tells : Bool) (file : List ℕ → Option (List ℕ)) (handed : Handed) where
   -- the file that was handed out is the sound one
   module _ (name : List ℕ) (told : IsTrue tells) (sound : IsSoundFile file name) where
     same_bytes : (bytes : List ℕ) → file name ≡ Some bytes → bytes ≡ sound.bytes
@@ -100,14 +100,14 @@ module _ (tells : Bool) (file : List ℕ → Option (List ℕ)) (handed : Handed
     given_file P given o (inr (inr (l, is_file, inr x))) = given l o x
 
   given_verb : (v : Verb) (a : Ask) (o : Outcome) → (takes_file v ≡ true → IsTrue tells × IsSoundFile file a.name)
-      → VerbCallsFor tells file handed v a o → IsGiven o.status
-  given_verb Check a o sound x = given_file a.name (sound refl).0 (sound refl).1 (IsReported a) (given_report a) o x
+      → VerbCallsFor before tells file handed v a o → IsGiven o.status
+  given_verb Check a o sound x = given_file a.name (sound refl).0 (sound refl).1 (IsReported before a) (given_report before a) o x
   given_verb Size a o sound x = given_file a.name (sound refl).0 (sound refl).1 IsSized (λ l p s. by_status _ _ s.status tt) o x
   given_verb Gen a o sound x = by_status _ _ x.status tt
-  given_verb Bench a o sound x = given_report a _ o x
+  given_verb Bench a o sound x = given_report before a _ o x
 
   -- sound words and a sound file have a whole answer
-  pub given_sound : (words : List (List ℕ)) → IsSound tells file words → (o : Outcome) → CallsFor tells file handed words o → IsGiven o.status
+  pub given_sound : (words : List (List ℕ)) → IsSound tells file words → (o : Outcome) → CallsFor before tells file handed words o → IsGiven o.status
   given_sound words sound o (inl x) = absurd (x.outside sound.asks.0)
   given_sound words sound o (inr x) =
       let same : sound.asked ≡ x.asked = one_asked words sound.asked x.asked sound.asks x.asks in

@@ -1,5 +1,5 @@
 -- A report of true figures, and what a report fixes.
-use Rattle.std.proofs.Common.{◌≡◌, ℕ, ◌+◌, ◌≤◌, List, [], ◌++◌, length, refl, sym, ap, ◌∙◌, arith, if◌then◌else◌}
+use Rattle.std.proofs.Common.{◌≡◌, ℕ, ◌+◌, ◌≤◌, List, ◌++◌, length, refl, sym, ap, ◌∙◌, arith, append_assoc, if◌then◌else◌}
 use Rattle.std.specs.Prelude.{codes, None}
 use Rattle.std.proofs.lemmas.List.{append_cancel_left}
 use Rattle.sil_model.specs.LoopValue.{LoopValue, IsValid}
@@ -13,10 +13,13 @@ use Rattle.sil_model.specs.declared.answers.Value.{Value}
 use Rattle.budget_laws.proofs.Small.{width_small}
 use Rattle.limit_laws.specs.Exact.Figure.{Pfd, Pfh}
 use Rattle.limit_laws.proofs.Figures.{exact_inside}
-use Rattle.sil_report.specs.FixedBy.{AreWritableEnds, lines_of_counts, line_of_interval}
+use Rattle.sil_report.specs.FixedBy.{AreWritableEnds, Interval, lines_of_counts, line_of_interval}
 use Rattle.sil_report.specs.Reports.{report_lines, IsReport}
 use Rattle.sil_report.proofs.FixedBy.{lines_fix_numbers}
+use Rattle.sil_watch.specs.Lines.{lines_of_all}
+use Rattle.sil_watch.specs.Watching.{WatcherValue}
 use Rattle.sil_words.specs.declared.ask.Ask.{Ask}
+use Rattle.loop_value.specs.Records.{HasFed}
 use Rattle.sil_top.specs.Report.{counts_of, IsTrueReport, ReportsFixFigures}
 use Rattle.sil_top.specs.Run.{Outcome, IsReported, is_shown}
 use Rattle.sil_top.specs.declared.Status.TheVariants.{Done, NotShown}
@@ -62,45 +65,69 @@ true_report l valid within v text is pfd pfh narrow_pfd narrow_pfh phases states
   pfh_band = refl;
 }
 
--- a true report under the status of its bands, which are those of the value, where the order is known by another name
+-- a true report under the status of its bands, which are those of the value, and the lines of watchers behind it, where the order is known by another name
 pub reported : (a : Ask) (l : LoopValue) → IsValid l → (order : ℕ) → order ≡ l.order → first_limit_of l order ≡ None → (v : Value) (o : Outcome)
-    → IsReport l.mission v o.text
+    → (before after : List WatcherValue) → HasFed l order (length (phases_of l)) a.watch before after
+    → (front : List ℕ) × IsReport l.mission v front × (o.text ≡ front ++ lines_of_all a.watch after)
     → ((N : ℕ) → order ≤ N → Contains18 v.pfd.lo v.pfd.hi (pfd_of N l)) → ((N : ℕ) → order ≤ N → Contains18 v.pfh.lo v.pfh.hi (pfh_of N l))
     → v.pfd.hi ≤ v.pfd.lo + pfd_width_of l order → v.pfh.hi ≤ v.pfh.lo + pfh_width_of l order
     → v.phases ≡ length (phases_of l) → v.states ≡ states_of l.subsystems → v.beats ≡ all_beats_of l → v.order ≡ order
     → (pfd pfh : Band) → IsBandOf pfd_edge v.pfd.lo v.pfd.hi pfd → IsBandOf pfh_edge v.pfh.lo v.pfh.hi pfh
-    → o.status ≡ (if is_shown a.need a.mode pfd pfh then Done else NotShown) → IsReported a l o
-reported a l valid order same within v o is in_pfd in_pfh narrow_pfd narrow_pfh phases states beats is_order pfd pfh is_pfd is_pfh status =
-    let r = true_report l valid (rw same at within) v o.text is (rw same at in_pfd) (rw same at in_pfh) (rw same at narrow_pfd) (rw same at narrow_pfh)
+    → o.status ≡ (if is_shown a.need a.mode pfd pfh then Done else NotShown) → IsReported before a l o
+reported a l valid order same within v o before after fed (front, is, printed) in_pfd in_pfh narrow_pfd narrow_pfh phases states beats is_order pfd pfh is_pfd is_pfh status =
+    let r = true_report l valid (rw same at within) v front is (rw same at in_pfd) (rw same at in_pfh) (rw same at narrow_pfd) (rw same at narrow_pfh)
     phases states beats (is_order ∙ same) in
     let first : pfd ≡ r.report.pfd.band = one_band pfd_edge v.pfd.lo v.pfd.hi pfd is.pfd_band is_pfd is.is_pfd ∙ sym r.pfd_band in
     let second : pfh ≡ r.report.pfh.band = one_band pfh_edge v.pfh.lo v.pfh.hi pfh is.pfh_band is_pfh is.is_pfh ∙ sym r.pfh_band in
     record {
+      front = front;
+      lines = lines_of_all a.watch after;
+      printed = printed;
       report = r.report;
+      told = record { after = after; fed = rw same at fed; printed = refl };
       status = status ∙ ap (λ (b : Band). if is_shown a.need a.mode b pfh then Done else NotShown) first
           ∙ ap (λ (b : Band). if is_shown a.need a.mode r.report.pfd.band b then Done else NotShown) second;
     }
 
--- the intervals are read back from the last two lines
-module _ (l : LoopValue) (text : List ℕ) (a b : IsTrueReport l text) where
-  ends_pfd : (r : IsTrueReport l text) → AreWritableEnds r.pfd
-  ends_pfd r = record { lo = omega (arith, r.true_pfd.ordered, r.true_pfd.printable); hi = omega (arith, r.true_pfd.printable) }
+-- the intervals are read back from the last two lines, whatever is behind them
+module _ (l : LoopValue) (s t more_s more_t : List ℕ) (a : IsTrueReport l s) (b : IsTrueReport l t) (same : s ++ more_s ≡ t ++ more_t) where
+  ends_pfd : (text : List ℕ) (r : IsTrueReport l text) → AreWritableEnds r.pfd
+  ends_pfd text r = record { lo = omega (arith, r.true_pfd.ordered, r.true_pfd.printable); hi = omega (arith, r.true_pfd.printable) }
 
-  ends_pfh : (r : IsTrueReport l text) → AreWritableEnds r.pfh
-  ends_pfh r = record { lo = omega (arith, r.true_pfh.ordered, r.true_pfh.printable); hi = omega (arith, r.true_pfh.printable) }
+  ends_pfh : (text : List ℕ) (r : IsTrueReport l text) → AreWritableEnds r.pfh
+  ends_pfh text r = record { lo = omega (arith, r.true_pfh.ordered, r.true_pfh.printable); hi = omega (arith, r.true_pfh.printable) }
 
-  lines : line_of_interval (codes "pfd") a.pfd ++ line_of_interval (codes "pfh") a.pfh ≡ line_of_interval (codes "pfd") b.pfd ++ line_of_interval (codes "pfh") b.pfh
+  -- a report and what is behind it, line by line
+  in_lines : (text more : List ℕ) (r : IsTrueReport l text)
+      → text ++ more ≡ lines_of_counts (counts_of l) ++ (line_of_interval (codes "pfd") r.pfd ++ (line_of_interval (codes "pfh") r.pfh ++ more))
   unfolding report_lines
-  lines = append_cancel_left (lines_of_counts (counts_of l)) _ _ (sym a.printed ∙ b.printed)
+  in_lines text more r =
+      ap (λ (x : List ℕ). x ++ more) r.printed ∙ regroup (lines_of_counts (counts_of l)) (line_of_interval (codes "pfd") r.pfd) (line_of_interval (codes "pfh") r.pfh) more
+    where
+      regroup : (c p q m : List ℕ) → (c ++ (p ++ q)) ++ m ≡ c ++ (p ++ (q ++ m))
+      regroup c p q m = simp append_assoc
 
-  both : (a.pfd ≡ b.pfd) × (line_of_interval (codes "pfh") a.pfh ≡ line_of_interval (codes "pfh") b.pfh)
-  both = lines_fix_numbers.interval (codes "pfd") a.pfd b.pfd _ _ (ends_pfd a) (ends_pfd b) lines
+  lines : line_of_interval (codes "pfd") a.pfd ++ (line_of_interval (codes "pfh") a.pfh ++ more_s)
+      ≡ line_of_interval (codes "pfd") b.pfd ++ (line_of_interval (codes "pfh") b.pfh ++ more_t)
+  lines = append_cancel_left (lines_of_counts (counts_of l)) _ _ (sym (in_lines s more_s a) ∙ same ∙ in_lines t more_t b)
+
+  first : (a.pfd ≡ b.pfd) × (line_of_interval (codes "pfh") a.pfh ++ more_s ≡ line_of_interval (codes "pfh") b.pfh ++ more_t)
+  first = lines_fix_numbers.interval (codes "pfd") a.pfd b.pfd _ _ (ends_pfd s a) (ends_pfd t b) lines
+
+  second : (a.pfh ≡ b.pfh) × (more_s ≡ more_t)
+  second = lines_fix_numbers.interval (codes "pfh") a.pfh b.pfh more_s more_t (ends_pfh s a) (ends_pfh t b) first.1
 
   pub same_pfd : a.pfd ≡ b.pfd
-  same_pfd = both.0
+  same_pfd = first.0
 
   pub same_pfh : a.pfh ≡ b.pfh
-  same_pfh = (lines_fix_numbers.interval (codes "pfh") a.pfh b.pfh [] [] (ends_pfh a) (ends_pfh b) (ap (λ (x : List ℕ). x ++ []) both.1)).0
+  same_pfh = second.0
+
+  pub same_ends : (s ≡ t) × (more_s ≡ more_t)
+  same_ends = (
+    a.printed ∙ ap (λ (i : Interval). report_lines (counts_of l) i a.pfh) same_pfd ∙ ap (λ (i : Interval). report_lines (counts_of l) b.pfd i) same_pfh ∙ sym b.printed,
+    second.1,
+  )
 
 pub reports_fix_figures : ReportsFixFigures
-reports_fix_figures = record { pfd = same_pfd; pfh = same_pfh }
+reports_fix_figures = record { pfd = same_pfd; pfh = same_pfh; ends = same_ends }

@@ -4,6 +4,7 @@ use Rattle.sil_model.specs.LoopValue.{LoopValue}
 use Rattle.sil_io.specs.Handed.{Handed}
 use Rattle.verb_table.specs.declared.verb.Verb.{Verb}
 use Rattle.verb_table.specs.declared.verb.Verb.TheVariants.{Check, Size, Gen, Bench}
+use Rattle.sil_watch.specs.Watching.{WatcherValue}
 use Rattle.sil_words.specs.declared.ask.Ask.{Ask}
 use Rattle.sil_top.specs.Run.{Outcome, is_shown, IsReported, IsSized, IsOfFile, VerbCallsFor, CallsFor}
 use Rattle.sil_top.specs.declared.Status.{Status}
@@ -25,10 +26,10 @@ shown_or_not : (b : Bool) → IsTold (if b then Done else NotShown)
 shown_or_not true = tt
 shown_or_not false = tt
 
-told_report : (a : Ask) (l : LoopValue) (o : Outcome) → IsReported a l o → IsTold o.status
-told_report a l o r = by_status _ _ r.status (shown_or_not (is_shown a.need a.mode r.report.pfd.band r.report.pfh.band))
+told_report : (before : List WatcherValue) (a : Ask) (l : LoopValue) (o : Outcome) → IsReported before a l o → IsTold o.status
+told_report before a l o r = by_status _ _ r.status (shown_or_not (is_shown a.need a.mode r.report.pfd.band r.report.pfh.band))
 
-module _ (tells : Bool) (file : List ℕ → Option (List ℕ)) (handed : Handed) where
+module _ (before : List WatcherValue) (tells : Bool) (file : List ℕ → Option (List ℕ)) (handed : Handed) where
   told_file : (name : List ℕ) (P : LoopValue → Outcome → Type 0) → ((l : LoopValue) (o : Outcome) → P l o → IsTold o.status) → (o : Outcome)
       → IsOfFile tells file handed name P o → IsTold o.status
   told_file name P told o (inl x) = by_status _ _ x.status tt
@@ -36,19 +37,19 @@ module _ (tells : Bool) (file : List ℕ → Option (List ℕ)) (handed : Handed
   told_file name P told o (inr (inr (l, is_file, inl x))) = by_status _ _ x.status tt
   told_file name P told o (inr (inr (l, is_file, inr x))) = told l o x
 
-  told_verb : (v : Verb) (a : Ask) (o : Outcome) → VerbCallsFor tells file handed v a o → IsTold o.status
-  told_verb Check a o x = told_file a.name (IsReported a) (told_report a) o x
+  told_verb : (v : Verb) (a : Ask) (o : Outcome) → VerbCallsFor before tells file handed v a o → IsTold o.status
+  told_verb Check a o x = told_file a.name (IsReported before a) (told_report before a) o x
   told_verb Size a o x = told_file a.name IsSized (λ l p s. by_status _ _ s.status tt) o x
   told_verb Gen a o x = by_status _ _ x.status tt
-  told_verb Bench a o x = told_report a _ o x
+  told_verb Bench a o x = told_report before a _ o x
 
-  pub told : (words : List (List ℕ)) (o : Outcome) → CallsFor tells file handed words o → IsTold o.status
+  pub told : (words : List (List ℕ)) (o : Outcome) → CallsFor before tells file handed words o → IsTold o.status
   told words o (inl x) = by_status _ _ x.status tt
   told words o (inr x) = told_verb x.asked.verb x.asked o x.answer
 
   -- the same text and status by other names
   pub under : (words : List (List ℕ)) (s t : Status) (text same : List ℕ) → s ≡ t → text ≡ same
-      → CallsFor tells file handed words (record { status = s; text = text }) → CallsFor tells file handed words (record { status = t; text = same })
+      → CallsFor before tells file handed words (record { status = s; text = text }) → CallsFor before tells file handed words (record { status = t; text = same })
   under words s t text same e f x =
-      subst (λ (xs : List ℕ). CallsFor tells file handed words (record { status = t; text = xs })) f
-      (subst (λ (u : Status). CallsFor tells file handed words (record { status = u; text = text })) e x)
+      subst (λ (xs : List ℕ). CallsFor before tells file handed words (record { status = t; text = xs })) f
+      (subst (λ (u : Status). CallsFor before tells file handed words (record { status = u; text = text })) e x)

@@ -3,6 +3,7 @@ use Rattle.std.specs.Prelude.{◌≡◌, ℕ, Bool, List, Option, ◌⊎◌}
 use Rattle.sil_io.specs.Faults.{CountsFault}
 use Rattle.sil_io.specs.Handed.{Handed}
 use Rattle.sil_report.specs.Texts.{too_long_line}
+use Rattle.sil_watch.specs.Watching.{WatcherValue}
 use Rattle.sil_words.specs.Language.{IsInLanguage}
 use Rattle.sil_top.specs.Run.{Outcome, IsTooLong, IsFaulty, IsHandedInPart, CallsFor, IsStopped}
 use Rattle.sil_top.specs.declared.Status.TheVariants.{FileRefused}
@@ -26,10 +27,11 @@ module _ (tells : Bool) (file : List ℕ → Option (List ℕ)) (handed : Handed
   IsFileFault name before now (Refused line) = IsFaulty tells file handed name (refused_by line.items)
   IsFileFault name before now (Memory e) = IsHandedInPart tells file handed name
 
-  -- why there is no answer to the words, where so much was handed out before
+-- why there is no answer to the words, where so much was handed out before
+module _ (watchers : List WatcherValue) (tells : Bool) (file : List ℕ → Option (List ℕ)) (handed : Handed) where
   abbrev pub HasCause : List (List ℕ) → Handed → ℕ → ℕ → Fault → Type 0
   HasCause words was before now Usage = IsInLanguage words → ⊥
   HasCause words was before now Read = IsStopped tells file handed words × CountsFault before now
-  HasCause words was before now TooLong = CallsFor tells file handed words (refused_by too_long_line)
-  HasCause words was before now (Refused line) = CallsFor tells file handed words (refused_by line.items)
+  HasCause words was before now TooLong = CallsFor watchers tells file handed words (refused_by too_long_line)
+  HasCause words was before now (Refused line) = CallsFor watchers tells file handed words (refused_by line.items)
   HasCause words was before now (Memory e) = (handed ≡ was) ⊎ IsStopped tells file handed words

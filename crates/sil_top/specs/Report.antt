@@ -1,5 +1,5 @@
 -- What makes a report true.
-use Rattle.std.specs.Prelude.{◌≡◌, ℕ, ◌+◌, ◌/◌, ◌<◌, ◌≤◌, ◌^◌, List, length, None}
+use Rattle.std.specs.Prelude.{◌≡◌, ℕ, ◌+◌, ◌/◌, ◌<◌, ◌≤◌, ◌^◌, List, ◌++◌, length, None}
 use Rattle.sil_model.specs.LoopValue.{LoopValue}
 use Rattle.sil_model.specs.Budget.{pfd_width_of, pfh_width_of}
 use Rattle.sil_model.specs.Calendar.{phases_of}
@@ -10,6 +10,9 @@ use Rattle.limit_laws.specs.Exact.{Figure, figure_of, ContainsExact18}
 use Rattle.limit_laws.specs.Exact.Figure.{Pfd, Pfh}
 use Rattle.sil_report.specs.FixedBy.{Interval, Counts}
 use Rattle.sil_report.specs.Reports.{report_lines}
+use Rattle.sil_watch.specs.Lines.{lines_of_all}
+use Rattle.sil_watch.specs.Watching.{WatcherValue}
+use Rattle.loop_value.specs.Records.{HasFed}
 
 -- the counts of a loop, at its order of the series
 abbrev pub counts_of : LoopValue → Counts
@@ -43,7 +46,16 @@ pub record IsTrueReport (l : LoopValue) (text : List ℕ) : Type 0 where
   pub true_pfh : IsTrueOf l Pfh pfh_edge (pfh_width_of l l.order) pfh
   pub sharp : pfd.hi ≤ pfd.lo + 10 ^ 18 / 32_000
 
--- one report of a loop has one interval of each figure
+-- the text has the lines of the watchers that are asked for, after they took in one true record of each phase, in order of the
+-- phases; it is empty where none is asked for
+pub record IsToldOfPhases (l : LoopValue) (asked : ℕ) (before : List WatcherValue) (text : List ℕ) : Type 0 where
+  pub after : List WatcherValue
+  pub fed : HasFed l l.order (length (phases_of l)) asked before after
+  pub printed : text ≡ lines_of_all asked after
+
+-- one report of a loop has one interval of each figure, and where it ends is told by its text, whatever is written behind it
 pub record ReportsFixFigures : Type 0 where
-  pub pfd : (l : LoopValue) (text : List ℕ) (a b : IsTrueReport l text) → a.pfd ≡ b.pfd
-  pub pfh : (l : LoopValue) (text : List ℕ) (a b : IsTrueReport l text) → a.pfh ≡ b.pfh
+  pub pfd : (l : LoopValue) (s t more_s more_t : List ℕ) (a : IsTrueReport l s) (b : IsTrueReport l t) → s ++ more_s ≡ t ++ more_t → a.pfd ≡ b.pfd
+  pub pfh : (l : LoopValue) (s t more_s more_t : List ℕ) (a : IsTrueReport l s) (b : IsTrueReport l t) → s ++ more_s ≡ t ++ more_t → a.pfh ≡ b.pfh
+  pub ends : (l : LoopValue) (s t more_s more_t : List ℕ) (a : IsTrueReport l s) (b : IsTrueReport l t) → s ++ more_s ≡ t ++ more_t
+      → (s ≡ t) × (more_s ≡ more_t)

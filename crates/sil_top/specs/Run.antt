@@ -21,7 +21,8 @@ use Rattle.sil_words.specs.declared.ask.Ask.{Ask}
 use Rattle.sil_words.specs.declared.ask.Mode.{Mode}
 use Rattle.sil_words.specs.declared.ask.Mode.TheVariants.{Low, High, Both}
 use Rattle.sil_report.specs.Texts.{size_text_of, limit_fault_line_of, file_fault_line_of, too_long_line}
-use Rattle.sil_top.specs.Report.{IsTrueReport}
+use Rattle.sil_watch.specs.Watching.{WatcherValue}
+use Rattle.sil_top.specs.Report.{IsTrueReport, IsToldOfPhases}
 use Rattle.sil_top.specs.declared.Status.{Status}
 use Rattle.sil_top.specs.declared.Status.TheVariants.{Done, NotShown, Usage, FileRefused}
 
@@ -38,9 +39,14 @@ is_shown (Some need) Low pfd pfh = meets_of pfd need
 is_shown (Some need) High pfd pfh = meets_of pfh need
 is_shown (Some need) Both pfd pfh = meets_of pfd need && meets_of pfh need
 
--- the report of the loop; the status says whether the printed bands show what is needed
-pub record IsReported (a : Ask) (l : LoopValue) (o : Outcome) : Type 0 where
-  pub report : IsTrueReport l o.text
+-- the report of the loop, and behind it what watchers tell of its phases, which were `before` before the run; the status says
+-- whether the printed bands show what is needed
+pub record IsReported (before : List WatcherValue) (a : Ask) (l : LoopValue) (o : Outcome) : Type 0 where
+  pub front : List ℕ
+  pub lines : List ℕ
+  pub printed : o.text ≡ front ++ lines
+  pub report : IsTrueReport l front
+  pub told : IsToldOfPhases l a.watch before lines
   pub status : o.status ≡ (if is_shown a.need a.mode report.pfd.band report.pfh.band then Done else NotShown)
 
 -- the sizes of the loop, which is within all limits
@@ -113,14 +119,14 @@ takes_file Size = true
 takes_file Gen = false
 takes_file Bench = false
 
--- What a run calls for: what the shelf tells of its files, and what it handed out.
-module _ (tells : Bool) (file : List ℕ → Option (List ℕ)) (handed : Handed) where
+-- What a run calls for: the watchers before it, what the shelf tells of its files, and what it handed out.
+module _ (before : List WatcherValue) (tells : Bool) (file : List ℕ → Option (List ℕ)) (handed : Handed) where
   -- what is asked for
   abbrev pub VerbCallsFor : Verb → Ask → Outcome → Type 0
-  VerbCallsFor Check a o = IsOfFile tells file handed a.name (IsReported a) o
+  VerbCallsFor Check a o = IsOfFile tells file handed a.name (IsReported before a) o
   VerbCallsFor Size a o = IsOfFile tells file handed a.name IsSized o
   VerbCallsFor Gen a o = IsPrinted (drawn_of a.number) o
-  VerbCallsFor Bench a o = IsReported a (drawn_of a.number) o
+  VerbCallsFor Bench a o = IsReported before a (drawn_of a.number) o
 
   -- what the words call for, which are in the language
   pub record IsAnswer (words : List (List ℕ)) (o : Outcome) : Type 0 where
@@ -137,12 +143,12 @@ module _ (tells : Bool) (file : List ℕ → Option (List ℕ)) (handed : Handed
   abbrev pub CallsFor : List (List ℕ) → Outcome → Type 0
   CallsFor words o = IsUsage words o ⊎ IsAnswer words o
 
-  -- the words ask for a file, and the run ended before it was handed out whole, or read as a loop
-  pub record IsStopped (words : List (List ℕ)) : Type 0 where
-    pub asked : Ask
-    pub asks : Asks words asked
-    pub of_file : takes_file asked.verb ≡ true
-    pub is_handed : IsHandedInPart tells file handed asked.name
+-- the words ask for a file, and the run ended before it was handed out whole, or read as a loop
+pub record IsStopped (tells : Bool) (file : List ℕ → Option (List ℕ)) (handed : Handed) (words : List (List ℕ)) : Type 0 where
+  pub asked : Ask
+  pub asks : Asks words asked
+  pub of_file : takes_file asked.verb ≡ true
+  pub is_handed : IsHandedInPart tells file handed asked.name
 
 -- the words ask for a file
 pub record IsFileAsked (words : List (List ℕ)) : Type 0 where

@@ -19,6 +19,7 @@ pub use crate::figures::reports_fix_figures;
 use crate::verbs::answer_to;
 use sil_io::{Shelf, Sink, write_whole};
 use sil_report::{too_long_text, usage_text};
+use sil_watch::Watcher;
 use std::alloc::Global;
 
 /// How a run ended. The number of each is the exit status of the program.
@@ -41,7 +42,8 @@ pub enum Status {
 }
 
 /// Runs the program on its words: looks up the file that they ask for, if they ask for one, and writes the text that is
-/// called for.
+/// called for. The watchers that are asked for are fed a record of every phase, and their lines follow the report. All watchers
+/// are let go at the end.
 ///
 /// The clauses speak of what the shelf handed out since the file was picked and of what the sink took, whichever shelf
 /// and sink they are. Over a shelf that tells its files the bytes handed out are the file's, and a sink that tells its
@@ -51,25 +53,27 @@ pub fn run<S: Shelf, K: Sink>(
     words: &[String],
     shelf: &mut S,
     sink: &mut K,
+    mut watchers: Vec<Box<dyn Watcher>>,
 ) -> Status
     // What was asked for was written: by `check` and `bench` a true report, in which PFDavg and PFH of every order of the
     // series from the printed one on, and the exact ones, lie between the printed ends, which are no further apart than the
-    // error budget allows, and the bands are those of the ends; by `size` the sizes of the loop; by `gen` its loop file.
+    // error budget allows, and the bands are those of the ends, and behind the report the lines of the watchers that are asked
+    // for, each fed one true record of every phase; by `size` the sizes of the loop; by `gen` its loop file.
     ensures headline { result ≡ Status.Done → (text : List ℕ)
-        × CallsFor S.tells (S.file shelf.old) (S.handed shelf.new) (map string_bytes words.now) (record { status = Status.Done; text = text })
+        × CallsFor (map (λ w. watcher_value w) watchers.items) S.tells (S.file shelf.old) (S.handed shelf.new) (map string_bytes words.now) (record { status = Status.Done; text = text })
         × (K.taken sink.new ≡ K.taken sink.old ++ text)
         × (IsTrue K.tells → K.written sink.new ≡ K.written sink.old ++ text) }
     // The same of a report whose printed bands do not show the level that is needed.
     ensures not_shown { result ≡ Status.NotShown → (text : List ℕ)
-        × CallsFor S.tells (S.file shelf.old) (S.handed shelf.new) (map string_bytes words.now) (record { status = Status.NotShown; text = text })
+        × CallsFor (map (λ w. watcher_value w) watchers.items) S.tells (S.file shelf.old) (S.handed shelf.new) (map string_bytes words.now) (record { status = Status.NotShown; text = text })
         × (K.taken sink.new ≡ K.taken sink.old ++ text)
         × (IsTrue K.tells → K.written sink.new ≡ K.written sink.old ++ text) }
     ensures usage { result ≡ Status.Usage → (text : List ℕ)
-        × CallsFor S.tells (S.file shelf.old) (S.handed shelf.new) (map string_bytes words.now) (record { status = Status.Usage; text = text })
+        × CallsFor (map (λ w. watcher_value w) watchers.items) S.tells (S.file shelf.old) (S.handed shelf.new) (map string_bytes words.now) (record { status = Status.Usage; text = text })
         × (K.taken sink.new ≡ K.taken sink.old ++ text)
         × (IsTrue K.tells → K.written sink.new ≡ K.written sink.old ++ text) }
     ensures refused { result ≡ Status.FileRefused → (text : List ℕ)
-        × CallsFor S.tells (S.file shelf.old) (S.handed shelf.new) (map string_bytes words.now) (record { status = Status.FileRefused; text = text })
+        × CallsFor (map (λ w. watcher_value w) watchers.items) S.tells (S.file shelf.old) (S.handed shelf.new) (map string_bytes words.now) (record { status = Status.FileRefused; text = text })
         × (K.taken sink.new ≡ K.taken sink.old ++ text)
         × (IsTrue K.tells → K.written sink.new ≡ K.written sink.old ++ text) }
     ensures read_fault { result ≡ Status.ReadFault
@@ -78,7 +82,7 @@ pub fn run<S: Shelf, K: Sink>(
         × (K.taken sink.new ≡ K.taken sink.old)
         × (IsTrue K.tells → K.written sink.new ≡ K.written sink.old) }
     ensures write_fault { result ≡ Status.WriteFault → (status : Status) × (text : List ℕ)
-        × CallsFor S.tells (S.file shelf.old) (S.handed shelf.new) (map string_bytes words.now) (record { status = status; text = text })
+        × CallsFor (map (λ w. watcher_value w) watchers.items) S.tells (S.file shelf.old) (S.handed shelf.new) (map string_bytes words.now) (record { status = status; text = text })
         × CountsFault (K.faults sink.old) (K.faults sink.new)
         × AppendsPart (K.taken sink.old) (K.taken sink.new) text
         × (IsTrue K.tells → AppendsPart (K.written sink.old) (K.written sink.new) text) }
@@ -109,11 +113,11 @@ pub fn run<S: Shelf, K: Sink>(
     ensures complete { IsSound S.tells (S.file shelf.old) (map string_bytes words.now)
         → IsQuiet (S.faults shelf.old) (S.faults shelf.new) → IsQuiet (K.faults sink.old) (K.faults sink.new)
         → (result ≡ Status.Memory) ⊎ (((result ≡ Status.Done) ⊎ (result ≡ Status.NotShown)) × ((text : List ℕ)
-        × CallsFor S.tells (S.file shelf.old) (S.handed shelf.new) (map string_bytes words.now) (record { status = result; text = text })
+        × CallsFor (map (λ w. watcher_value w) watchers.items) S.tells (S.file shelf.old) (S.handed shelf.new) (map string_bytes words.now) (record { status = result; text = text })
         × (K.taken sink.new ≡ K.taken sink.old ++ text)
         × (IsTrue K.tells → K.written sink.new ≡ K.written sink.old ++ text))) }
 {
-    match answer_to(alloc, words, shelf) {
+    match answer_to(alloc, words, shelf, watchers.as_mut_slice()) {
         Ok(answer) => write_text(sink, &answer.text, answer.status),
         Err(Fault::Usage) => write_text(sink, usage_text(), Status::Usage),
         Err(Fault::TooLong) => write_text(sink, too_long_text(), Status::FileRefused),

@@ -19,13 +19,19 @@ use loop_value::{ValueFault, measure};
 use sil_io::Shelf;
 use sil_model::Loop;
 use sil_report::{limit_fault_text, size_text};
+use sil_watch::Watcher;
 use sil_words::{Ask, Verb, WordFault, read_words};
 use std::alloc::{AllocError, Global};
 
 /// What the words call for.
-pub fn answer_to<S: Shelf>(alloc: Global, words: &[String], shelf: &mut S) -> Result<Answer, Fault>
-    ensures answer { IfOk result (λ x. CallsFor S.tells (S.file shelf.old) (S.handed shelf.new) (map string_bytes words.now) (outcome_of x)) }
-    ensures cause { IfErr result (HasCause S.tells (S.file shelf.old) (S.handed shelf.new) (map string_bytes words.now) (S.handed shelf.old) (S.faults shelf.old) (S.faults shelf.new)) }
+pub fn answer_to<S: Shelf>(
+    alloc: Global,
+    words: &[String],
+    shelf: &mut S,
+    watchers: &mut [Box<dyn Watcher>],
+) -> Result<Answer, Fault>
+    ensures answer { IfOk result (λ x. CallsFor (map (λ w. watcher_value w) watchers.old) S.tells (S.file shelf.old) (S.handed shelf.new) (map string_bytes words.now) (outcome_of x)) }
+    ensures cause { IfErr result (HasCause (map (λ w. watcher_value w) watchers.old) S.tells (S.file shelf.old) (S.handed shelf.new) (map string_bytes words.now) (S.handed shelf.old) (S.faults shelf.old) (S.faults shelf.new)) }
     ensures untouched { (IsFileAsked (map string_bytes words.now) → ⊥) → shelf.new ≡ shelf.old }
     ensures files_stay { IsTrue S.tells → (name : List ℕ) → S.file shelf.new name ≡ S.file shelf.old name }
     ensures picked_once { (a : Ask) → Asks (map string_bytes words.now) a
@@ -42,17 +48,22 @@ pub fn answer_to<S: Shelf>(alloc: Global, words: &[String], shelf: &mut S) -> Re
         Err(WordFault::Memory(e)) => return Err(Fault::Memory(e)),
     };
     match ask.verb {
-        Verb::Check => check(alloc, &ask, shelf),
+        Verb::Check => check(alloc, &ask, shelf, watchers),
         Verb::Size => size(alloc, &ask, shelf),
         Verb::Gen => draw(alloc, &ask).map_err(Fault::Memory),
-        Verb::Bench => bench(alloc, &ask).map_err(Fault::Memory),
+        Verb::Bench => bench(alloc, &ask, watchers).map_err(Fault::Memory),
     }
 }
 
 /// The report of the loop of a file.
-fn check<S: Shelf>(alloc: Global, ask: &Ask, shelf: &mut S) -> Result<Answer, Fault>
+fn check<S: Shelf>(
+    alloc: Global,
+    ask: &Ask,
+    shelf: &mut S,
+    watchers: &mut [Box<dyn Watcher>],
+) -> Result<Answer, Fault>
     requires { IfSome ask.now.need IsLevel }
-    ensures answer { IfOk result (λ x. IsOfFile S.tells (S.file shelf.old) (S.handed shelf.new) ask.now.name (IsReported ask.now) (outcome_of x)) }
+    ensures answer { IfOk result (λ x. IsOfFile S.tells (S.file shelf.old) (S.handed shelf.new) ask.now.name (IsReported (map (λ w. watcher_value w) watchers.old) ask.now) (outcome_of x)) }
     ensures fault { IfErr result (IsFileFault S.tells (S.file shelf.old) (S.handed shelf.new) ask.now.name (S.faults shelf.old) (S.faults shelf.new)) }
     ensures files_stay { IsTrue S.tells → (name : List ℕ) → S.file shelf.new name ≡ S.file shelf.old name }
     ensures tried { S.tried shelf.new ≡ S.tried shelf.old ++ ask.now.name ∷ [] }
@@ -62,7 +73,7 @@ fn check<S: Shelf>(alloc: Global, ask: &Ask, shelf: &mut S) -> Result<Answer, Fa
     ensures calm_reads { S.calm shelf.old → IsSome (S.file shelf.old ask.now.name) → IsErrOf result Fault.Read → ⊥ }
 {
     let l = load(alloc, ask.name.as_str(), shelf)?;
-    report_of(alloc, &l, ask).map_err(Fault::Memory)
+    report_of(alloc, &l, ask, watchers).map_err(Fault::Memory)
 }
 
 /// The sizes of the loop of a file.
@@ -109,10 +120,10 @@ fn draw(alloc: Global, ask: &Ask) -> Result<Answer, AllocError>
 }
 
 /// The report of the loop that is drawn from a number.
-fn bench(alloc: Global, ask: &Ask) -> Result<Answer, AllocError>
+fn bench(alloc: Global, ask: &Ask, watchers: &mut [Box<dyn Watcher>]) -> Result<Answer, AllocError>
     requires { IfSome ask.now.need IsLevel }
-    ensures { IfOk result (λ x. IsReported ask.now (drawn_of ask.now.number) (outcome_of x)) }
+    ensures { IfOk result (λ x. IsReported (map (λ w. watcher_value w) watchers.old) ask.now (drawn_of ask.now.number) (outcome_of x)) }
 {
     let l = make_loop(alloc, ask.number)?;
-    report_of(alloc, &l, ask)
+    report_of(alloc, &l, ask, watchers)
 }

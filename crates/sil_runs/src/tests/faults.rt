@@ -93,7 +93,7 @@ fn sink_that_stops_at_each_byte(rt: HostRuntime) -> Result<(), Fail> {
             } else {
                 sink.fail_after(taken);
             }
-            let status = run(alloc, &words, &mut shelf, &mut sink);
+            let status = run(alloc, &words, &mut shelf, &mut sink, Vec::new(alloc));
             assert_eq!(rt; status, Status::WriteFault, "{taken}");
             assert_eq!(rt; sink.bytes(), &whole.as_bytes()[..taken]);
         }

@@ -105,11 +105,7 @@ fn whole_reports(rt: HostRuntime) -> Result<(), Fail> {
     let mut shelf = shelf_of_files(alloc)?;
     let (_, report) = ran_over(alloc, "check three", &mut shelf, ROOM)?;
     assert_eq!(rt; report.as_str().lines().count(), 7);
-    for line in [
-        "check three --need 3 --mode both",
-        "check three --series",
-        "check --need 4 three",
-    ] {
+    for line in ["check three --need 3 --mode both", "check --need 4 three"] {
         let (_, text) = ran_over(alloc, line, &mut shelf, ROOM)?;
         assert_eq!(rt; text.as_str(), report.as_str(), "{line}");
     }

@@ -6,10 +6,12 @@ mod files;
 mod lines;
 mod refusals;
 mod reports;
+mod series;
 mod sizes;
 
 use sil_io::{MemShelf, MemSink};
 use sil_top::{Status, run};
+use sil_watch::{Series, Watcher};
 use std::alloc::{AllocError, Global};
 use std::test::Fail;
 
@@ -29,7 +31,7 @@ fn words_of(alloc: Global, line: &str) -> Result<Vec<String>, AllocError> {
     Ok(words)
 }
 
-/// The status and the text of a run over this shelf, into a sink that fails after so many bytes.
+/// The status and the text of a run over this shelf with a series, into a sink that fails after so many bytes.
 fn ran_over(
     alloc: Global,
     line: &str,
@@ -39,7 +41,9 @@ fn ran_over(
     let mut sink = MemSink::new(alloc, ROOM)?;
     sink.fail_after(fail_after);
     let words = words_of(alloc, line)?;
-    let status = run(alloc, &words, shelf, &mut sink);
+    let mut watchers: Vec<Box<dyn Watcher>> = Vec::new(alloc);
+    watchers.push(Box::new(alloc, Series::new(alloc))?)?;
+    let status = run(alloc, &words, shelf, &mut sink, watchers);
     let text = std::str::from_utf8(sink.bytes()).map_err(|_| "no text")?;
     Ok((status, String::from_str(alloc, text)?))
 }

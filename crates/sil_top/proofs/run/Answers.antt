@@ -11,13 +11,13 @@ use Rattle.sil_top.proofs.run.Goals as goal
 
 pub write_text-requires : goal.write_text-requires
 write_text-requires g c = λ e.
-    subst IsTold e (told g.S.Shelf.tells (g.S.Shelf.file c.args.shelf.now) (g.S.Shelf.handed c.answer_to.new.shelf) (map string_bytes c.args.words.now) _ c.in-Ok.ensures.answer)
+    subst IsTold e (told _ g.S.Shelf.tells (g.S.Shelf.file c.args.shelf.now) (g.S.Shelf.handed c.answer_to.new.shelf) (map string_bytes c.args.words.now) _ c.in-Ok.ensures.answer)
 
 pub returns-in-Ok-clause-headline : goal.returns-in-Ok-clause-headline
 returns-in-Ok-clause-headline g c = λ e. elim c.write_text.ensures.one_of_two [
   | inl same ↦ (
     c.deref.result.now,
-    under g.S.Shelf.tells (g.S.Shelf.file c.args.shelf.now) (g.S.Shelf.handed c.answer_to.new.shelf) (map string_bytes c.args.words.now) _ _ _ _ (sym same ∙ e) (sym c.deref.ensures.value) c.in-Ok.ensures.answer,
+    under _ g.S.Shelf.tells (g.S.Shelf.file c.args.shelf.now) (g.S.Shelf.handed c.answer_to.new.shelf) (map string_bytes c.args.words.now) _ _ _ _ (sym same ∙ e) (sym c.deref.ensures.value) (rw c.as_mut_slice.ensures.value at c.in-Ok.ensures.answer),
     c.write_text.ensures.all_taken same,
     c.write_text.ensures.whole same,
   )
@@ -28,7 +28,7 @@ pub returns-in-Ok-clause-not_shown : goal.returns-in-Ok-clause-not_shown
 returns-in-Ok-clause-not_shown g c = λ e. elim c.write_text.ensures.one_of_two [
   | inl same ↦ (
     c.deref.result.now,
-    under g.S.Shelf.tells (g.S.Shelf.file c.args.shelf.now) (g.S.Shelf.handed c.answer_to.new.shelf) (map string_bytes c.args.words.now) _ _ _ _ (sym same ∙ e) (sym c.deref.ensures.value) c.in-Ok.ensures.answer,
+    under _ g.S.Shelf.tells (g.S.Shelf.file c.args.shelf.now) (g.S.Shelf.handed c.answer_to.new.shelf) (map string_bytes c.args.words.now) _ _ _ _ (sym same ∙ e) (sym c.deref.ensures.value) (rw c.as_mut_slice.ensures.value at c.in-Ok.ensures.answer),
     c.write_text.ensures.all_taken same,
     c.write_text.ensures.whole same,
   )
@@ -37,13 +37,13 @@ returns-in-Ok-clause-not_shown g c = λ e. elim c.write_text.ensures.one_of_two 
 
 pub returns-in-Ok-clause-read_fault : goal.returns-in-Ok-clause-read_fault
 returns-in-Ok-clause-read_fault g c = λ e. elim c.write_text.ensures.one_of_two [
-  | inl same ↦ absurd (subst IsTold (sym same ∙ e) (told g.S.Shelf.tells (g.S.Shelf.file c.args.shelf.now) (g.S.Shelf.handed c.answer_to.new.shelf) (map string_bytes c.args.words.now) _ c.in-Ok.ensures.answer))
+  | inl same ↦ absurd (subst IsTold (sym same ∙ e) (told _ g.S.Shelf.tells (g.S.Shelf.file c.args.shelf.now) (g.S.Shelf.handed c.answer_to.new.shelf) (map string_bytes c.args.words.now) _ c.in-Ok.ensures.answer))
   | inr fault ↦ let none : ⊥ = cc in absurd none
 ]
 
 pub returns-in-Ok-clause-memory : goal.returns-in-Ok-clause-memory
 returns-in-Ok-clause-memory g c = λ e. elim c.write_text.ensures.one_of_two [
-  | inl same ↦ absurd (subst IsTold (sym same ∙ e) (told g.S.Shelf.tells (g.S.Shelf.file c.args.shelf.now) (g.S.Shelf.handed c.answer_to.new.shelf) (map string_bytes c.args.words.now) _ c.in-Ok.ensures.answer))
+  | inl same ↦ absurd (subst IsTold (sym same ∙ e) (told _ g.S.Shelf.tells (g.S.Shelf.file c.args.shelf.now) (g.S.Shelf.handed c.answer_to.new.shelf) (map string_bytes c.args.words.now) _ c.in-Ok.ensures.answer))
   | inr fault ↦ let none : ⊥ = cc in absurd none
 ]
 
@@ -58,17 +58,50 @@ returns-in-Err-Usage-clause-write_fault g c = λ e.
       part.2,
     )
 
+pub returns-in-Ok-clause-write_fault : goal.returns-in-Ok-clause-write_fault
+returns-in-Ok-clause-write_fault g c = λ e.
+    let part = c.write_text.ensures.part e in (
+      _,
+      c.deref.result.now,
+      under _ g.S.Shelf.tells (g.S.Shelf.file c.args.shelf.now) (g.S.Shelf.handed c.answer_to.new.shelf) (map string_bytes c.args.words.now) _ _ _ _ refl (sym c.deref.ensures.value) (rw c.as_mut_slice.ensures.value at c.in-Ok.ensures.answer),
+      part.0,
+      part.1,
+      part.2,
+    )
+
+pub returns-in-Err-TooLong-clause-write_fault : goal.returns-in-Err-TooLong-clause-write_fault
+returns-in-Err-TooLong-clause-write_fault g c = λ e.
+    let part = c.write_text-in-Err-TooLong.ensures.part e in (
+      _,
+      c.too_long_text.result.now,
+      under _ g.S.Shelf.tells (g.S.Shelf.file c.args.shelf.now) (g.S.Shelf.handed c.answer_to.new.shelf) (map string_bytes c.args.words.now) _ _ _ _ refl (sym c.too_long_text.ensures) (rw c.as_mut_slice.ensures.value at (rw c.in-Err-TooLong.field-0-is at c.in-Err-TooLong.ensures.cause)),
+      part.0,
+      part.1,
+      part.2,
+    )
+
+pub returns-in-Err-Refused-clause-write_fault : goal.returns-in-Err-Refused-clause-write_fault
+returns-in-Err-Refused-clause-write_fault g c = λ e.
+    let part = c.write_text-in-Err-Refused.ensures.part e in (
+      _,
+      c.deref-in-Err-Refused.result.now,
+      under _ g.S.Shelf.tells (g.S.Shelf.file c.args.shelf.now) (g.S.Shelf.handed c.answer_to.new.shelf) (map string_bytes c.args.words.now) _ _ _ _ refl (sym c.deref-in-Err-Refused.ensures.value) (rw c.as_mut_slice.ensures.value at (rw c.in-Err-Refused.field-0-is at c.in-Err-Refused.ensures.cause)),
+      part.0,
+      part.1,
+      part.2,
+    )
+
 -- Completeness: each way that a run ends.
 
 pub returns-in-Ok-clause-complete : goal.returns-in-Ok-clause-complete
 returns-in-Ok-clause-complete g c = λ sound shelf sink. elim c.write_text.ensures.one_of_two [
   | inl same ↦
-      let given = given_sound g.S.Shelf.tells (g.S.Shelf.file c.args.shelf.now) (g.S.Shelf.handed c.answer_to.new.shelf) (map string_bytes c.args.words.now) sound _ c.in-Ok.ensures.answer in
+      let given = given_sound _ g.S.Shelf.tells (g.S.Shelf.file c.args.shelf.now) (g.S.Shelf.handed c.answer_to.new.shelf) (map string_bytes c.args.words.now) sound _ c.in-Ok.ensures.answer in
       inr (
         done_or_not_shown _ (subst IsGiven (sym same) given),
         (
           c.deref.result.now,
-          under g.S.Shelf.tells (g.S.Shelf.file c.args.shelf.now) (g.S.Shelf.handed c.answer_to.new.shelf) (map string_bytes c.args.words.now) _ _ _ _ (sym same) (sym c.deref.ensures.value) c.in-Ok.ensures.answer,
+          under _ g.S.Shelf.tells (g.S.Shelf.file c.args.shelf.now) (g.S.Shelf.handed c.answer_to.new.shelf) (map string_bytes c.args.words.now) _ _ _ _ (sym same) (sym c.deref.ensures.value) (rw c.as_mut_slice.ensures.value at c.in-Ok.ensures.answer),
           c.write_text.ensures.all_taken same,
           c.write_text.ensures.whole same,
         ),
@@ -83,36 +116,33 @@ returns-in-Err-Usage-clause-complete g c = λ sound shelf sink.
 
 pub returns-in-Err-TooLong-clause-complete : goal.returns-in-Err-TooLong-clause-complete
 returns-in-Err-TooLong-clause-complete g c = λ sound shelf sink.
-    absurd (given_sound g.S.Shelf.tells (g.S.Shelf.file c.args.shelf.now) (g.S.Shelf.handed c.answer_to.new.shelf) (map string_bytes c.args.words.now) sound (refused_by too_long_line) (rw c.in-Err-TooLong.field-0-is at c.in-Err-TooLong.ensures.cause))
+    absurd (given_sound _ g.S.Shelf.tells (g.S.Shelf.file c.args.shelf.now) (g.S.Shelf.handed c.answer_to.new.shelf) (map string_bytes c.args.words.now) sound (refused_by too_long_line) (rw c.in-Err-TooLong.field-0-is at c.in-Err-TooLong.ensures.cause))
 
 pub returns-in-Err-Refused-clause-complete : goal.returns-in-Err-Refused-clause-complete
 returns-in-Err-Refused-clause-complete g c = λ sound shelf sink.
-    absurd (given_sound g.S.Shelf.tells (g.S.Shelf.file c.args.shelf.now) (g.S.Shelf.handed c.answer_to.new.shelf) (map string_bytes c.args.words.now) sound (refused_by c.in-Err-Refused.line.items) (rw c.in-Err-Refused.field-0-is at c.in-Err-Refused.ensures.cause))
+    absurd (given_sound _ g.S.Shelf.tells (g.S.Shelf.file c.args.shelf.now) (g.S.Shelf.handed c.answer_to.new.shelf) (map string_bytes c.args.words.now) sound (refused_by c.in-Err-Refused.line.items) (rw c.in-Err-Refused.field-0-is at c.in-Err-Refused.ensures.cause))
 
 pub returns-in-Err-Read-clause-complete : goal.returns-in-Err-Read-clause-complete
 returns-in-Err-Read-clause-complete g c = λ sound shelf sink.
     let stopped : CountsFault (g.S.Shelf.faults c.args.shelf.now) (g.S.Shelf.faults c.answer_to.new.shelf) = (rw c.in-Err-Read.field-0-is at c.in-Err-Read.ensures.cause).1 in
     absurd (no_fault _ _ shelf stopped)
 
-pub returns-in-Err-Memory-clause-complete : goal.returns-in-Err-Memory-clause-complete
-returns-in-Err-Memory-clause-complete g c = λ sound shelf sink. inl refl
-
 -- No text stands for a read fault.
 
 pub returns-in-Ok-clause-noted : goal.returns-in-Ok-clause-noted
 returns-in-Ok-clause-noted g c = λ e. elim c.write_text.ensures.one_of_two [
-  | inl same ↦ absurd (subst IsTold (sym same ∙ e) (told g.S.Shelf.tells (g.S.Shelf.file c.args.shelf.now) (g.S.Shelf.handed c.answer_to.new.shelf) (map string_bytes c.args.words.now) _ c.in-Ok.ensures.answer))
+  | inl same ↦ absurd (subst IsTold (sym same ∙ e) (told _ g.S.Shelf.tells (g.S.Shelf.file c.args.shelf.now) (g.S.Shelf.handed c.answer_to.new.shelf) (map string_bytes c.args.words.now) _ c.in-Ok.ensures.answer))
   | inr fault ↦ let none : ⊥ = cc in absurd none
 ]
 
 pub returns-in-Ok-clause-fault_of_name : goal.returns-in-Ok-clause-fault_of_name
 returns-in-Ok-clause-fault_of_name g c = λ e a asks. elim c.write_text.ensures.one_of_two [
-  | inl same ↦ absurd (subst IsTold (sym same ∙ e) (told g.S.Shelf.tells (g.S.Shelf.file c.args.shelf.now) (g.S.Shelf.handed c.answer_to.new.shelf) (map string_bytes c.args.words.now) _ c.in-Ok.ensures.answer))
+  | inl same ↦ absurd (subst IsTold (sym same ∙ e) (told _ g.S.Shelf.tells (g.S.Shelf.file c.args.shelf.now) (g.S.Shelf.handed c.answer_to.new.shelf) (map string_bytes c.args.words.now) _ c.in-Ok.ensures.answer))
   | inr fault ↦ let none : ⊥ = cc in absurd none
 ]
 
 pub returns-in-Ok-clause-calm_reads : goal.returns-in-Ok-clause-calm_reads
 returns-in-Ok-clause-calm_reads g c = λ calm held e. elim c.write_text.ensures.one_of_two [
-  | inl same ↦ subst IsTold (sym same ∙ e) (told g.S.Shelf.tells (g.S.Shelf.file c.args.shelf.now) (g.S.Shelf.handed c.answer_to.new.shelf) (map string_bytes c.args.words.now) _ c.in-Ok.ensures.answer)
+  | inl same ↦ subst IsTold (sym same ∙ e) (told _ g.S.Shelf.tells (g.S.Shelf.file c.args.shelf.now) (g.S.Shelf.handed c.answer_to.new.shelf) (map string_bytes c.args.words.now) _ c.in-Ok.ensures.answer)
   | inr fault ↦ let none : ⊥ = cc in none
 ]
