@@ -8,7 +8,6 @@ and ticks are counted here, apart from the program, by the method that docs/MODE
 digits of its beats, of each block of beats the ticks of its rung, of each tick the ways that have a rate between count
 vectors that are reached. No figure is a test. Standard library only.
 """
-import os
 import subprocess
 import sys
 import tempfile
@@ -75,13 +74,15 @@ def counted(path):
 
 
 def timed(program, path):
+    """Seconds from start to end, and the greatest memory that was seen meanwhile, in kB."""
     start = time.perf_counter()
-    with open(os.devnull, "wb") as nowhere:
-        child = subprocess.Popen([program, "check", path], stdout=nowhere)
-        _, status, usage = os.wait4(child.pid, 0)
-        child.returncode = os.waitstatus_to_exitcode(status)
+    child = subprocess.Popen([program, "check", path], stdout=subprocess.DEVNULL)
+    peak = 0
+    while child.poll() is None:
+        with open(f"/proc/{child.pid}/status") as status:
+            peak = max([peak] + [int(line.split()[1]) for line in status if line.startswith("VmHWM")])
     assert child.returncode == 0, path
-    return time.perf_counter() - start, usage.ru_maxrss
+    return time.perf_counter() - start, peak
 
 
 def main():
