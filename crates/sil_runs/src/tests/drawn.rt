@@ -42,3 +42,21 @@ fn drawn_report(rt: HostRuntime) -> Result<(), Fail> {
     );
     Ok(())
 }
+
+/// The report of a drawn loop is the same in each run, and the status is Done where no band is asked for.
+#[test]
+fn drawn_report_twice(rt: HostRuntime) -> Result<(), Fail> {
+    let alloc = rt.alloc();
+    let mut shelf = MemShelf::new(alloc);
+    let (status, first) = ran_over(alloc, "bench 7", &mut shelf, ROOM)?;
+    assert_eq!(rt; status, Status::Done);
+    let (status, second) = ran_over(alloc, "bench 7", &mut shelf, ROOM)?;
+    assert_eq!(rt; status, Status::Done);
+    assert_eq!(rt; first.as_str(), second.as_str());
+    assert!(rt;
+        first.as_str().starts_with("mission 43800\nphases 5\n"),
+        "{first}"
+    );
+    assert_eq!(rt; first.as_str().lines().count(), 7);
+    Ok(())
+}
