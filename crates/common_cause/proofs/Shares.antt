@@ -1,7 +1,6 @@
 -- The share of the repair crews: what it is of whole numbers, and that it goes by the counts.
-use Rattle.std.proofs.Common.{◌≡◌, ℕ, zero, suc, ◌+◌, ◌<◌, ◌≤◌, List, [], ◌∷◌, length, get_or, drop, refl, sym, ap, ◌∙◌, arith, add-one}
+use Rattle.std.proofs.Common.{◌≡◌, ℕ, zero, suc, ◌+◌, ◌<◌, List, [], ◌∷◌, length, get_or, drop, refl, sym, ap, ◌∙◌, arith, add-one}
 use Rattle.std.proofs.Math.Seq.{drop-cons}
-use Rattle.sil_fraction.specs.Fraction.{Fraction, whole, ratio}
 use Rattle.sil_fraction.proofs.Laws.{whole-ratio}
 use Rattle.sil_model.specs.State.{FullState}
 use Rattle.sil_model.specs.Events.{share_of, in_repair_of}

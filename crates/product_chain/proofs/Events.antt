@@ -60,7 +60,13 @@ module _ (u : Subsystem) (v : IsSubsystemInRange u) where
   module _ (us : List Subsystem) (i : ℕ) (inside : i < length us) where
     group_fair : (g : ℕ) (k : Kind) → g + 1 ≤ length (groups_of us)
         → IsFair us (record { subsystem = i; group = g; whole = false; from = source k; to = target k; rate = kind_rate u k })
-    group_fair g (FailsBy f) h = record { subsystem = inside; inside = h; positive = λ share p. omega arith; small = λ share p. omega arith; slow = λ share p. failure-small f }
+    group_fair g (FailsBy f) h = record {
+      subsystem = inside;
+      inside = h;
+      positive = λ share p. omega arith;
+      small = λ share p. omega arith;
+      slow = λ share p. failure-small f;
+    }
     group_fair g Returns h = record {
       subsystem = inside;
       inside = h;
@@ -80,7 +86,13 @@ module _ (u : Subsystem) (v : IsSubsystemInRange u) where
           rate =
               Rattle.common_cause.specs.declared.event.Rate.TheVariants.Fails (common_units u f);
         })
-    whole_fair g f h = record { subsystem = inside; inside = h; positive = λ share p. omega arith; small = λ share p. omega arith; slow = λ share p. common-small f }
+    whole_fair g f h = record {
+      subsystem = inside;
+      inside = h;
+      positive = λ share p. omega arith;
+      small = λ share p. omega arith;
+      slow = λ share p. common-small f;
+    }
 
     groups_fair : (g n : ℕ) → g + n ≤ length (groups_of us) → All (IsFair us) (groups_events u i g n)
     groups_fair g zero h = All-nil (IsFair us)

@@ -40,7 +40,8 @@ use Rattle.std.proofs.Math.Nat.{mul-pos}
 -- a rate with its share, as a quotient
 times-value : (m : ℕ) (share : Share) (r : Rate) → 0 < share.den → 0 < lower share r → whole m *ℚ value_of (share_value share) r
     ≡ ratio (m * upper share r) (lower share r)
-times-value m share (Fails n) d p = sym (mul_assoc (whole m) (whole n) (inverse (whole (10 ^ 18)))) ∙ ap (λ x. x *ℚ inverse (whole (10 ^ 18))) (sym (whole-mul m n))
+times-value m share (Fails n) d p =
+    sym (mul_assoc (whole m) (whole n) (inverse (whole (10 ^ 18)))) ∙ ap (λ x. x *ℚ inverse (whole (10 ^ 18))) (sym (whole-mul m n))
 times-value m share (Repairs n) d p =
     let some : 0 < n = factor-some n share.den p in
     let one : share.num * 1 ≡ share.num = omega arith in

@@ -29,9 +29,10 @@ owner_at [] g = 0
 owner_at (u ∷ us) g = if nat_lt g (span_of u) then 0 else suc (owner_at us (g - span_of u))
 
 pub data IsShaped : List Subsystem → LumpEvent → Type 0 where
-  falls : {us : List Subsystem} {e : LumpEvent} → e.from ≡ Work → place_of Work ≢ place_of e.to → ((share : Share) → lower share e.rate ≡ units) → IsShaped us e
-  returns : {us : List Subsystem} {e : LumpEvent} → e.whole ≡ false → e.from ≡ Repair → e.to ≡ Work → ((share : Share) → lower share e.rate ≡ hours_at us e.group * share.den)
-      → e.subsystem ≡ owner_at us e.group → IsShaped us e
+  falls : {us : List Subsystem} {e : LumpEvent} → e.from ≡ Work → place_of Work ≢ place_of e.to
+      → ((share : Share) → lower share e.rate ≡ units) → IsShaped us e
+  returns : {us : List Subsystem} {e : LumpEvent} → e.whole ≡ false → e.from ≡ Repair → e.to ≡ Work
+      → ((share : Share) → lower share e.rate ≡ hours_at us e.group * share.den) → e.subsystem ≡ owner_at us e.group → IsShaped us e
 
 apart : (f : Failure) → place_of Work ≢ place_of (failed f)
 apart Undetected e = absurd (omega (arith, e))
