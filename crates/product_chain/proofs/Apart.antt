@@ -9,10 +9,11 @@ use Rattle.sil_model.specs.declared.parts.Subsystem.{Subsystem}
 use Rattle.channel_counts.specs.GroupSums.{sum_in, moved_together}
 use Rattle.common_cause.specs.declared.event.LumpEvent.{LumpEvent}
 use Rattle.common_cause.specs.LumpedRates.{spans, times_of, counts_after}
+use Rattle.common_cause.specs.Shares.{share_at}
 use Rattle.lumping.proofs.Numbering.{counts_numbered-number_of}
 use Rattle.product_chain.specs.Steps.{lower}
 use Rattle.product_chain.proofs.Events.{IsFair, after-valid}
-use Rattle.product_chain.proofs.Shapes.{IsShaped, hours_at}
+use Rattle.product_chain.proofs.Shapes.{IsShaped, hours_at, owner_at}
 use Rattle.product_chain.proofs.Shapes.IsShaped.{falls, returns}
 use Rattle.product_chain.proofs.Working.{working, other-group, not-more, after-failure-of, after-return, together-not-more, together-fewer}
 
@@ -73,19 +74,23 @@ module _ (us : List Subsystem) (cs : List ℕ) (v : IsCounts (groups_of us) cs) 
       go (falls from apart den) =
           let found = fewer-somewhere e m.fair from apart m.happens in
           absurd (omega (arith, found.1, ap (λ ds. working ds found.0) same))
-      go (returns single from to den) = absurd (omega (arith, one-more e m.fair single from to, ap (λ ds. working ds e.group) same))
+      go (returns single from to den own) = absurd (omega (arith, one-more e m.fair single from to, ap (λ ds. working ds e.group) same))
+
+  -- the divisor of the rate of an event
+  abbrev pub divisor : LumpEvent → ℕ
+  divisor e = lower (share_at us cs e.subsystem) e.rate
 
   -- two that lead to one count vector have rates of one divisor
-  pub one-divisor : (e d : LumpEvent) → MayHappen e → MayHappen d → after e ≡ after d → lower e.rate ≡ lower d.rate
+  pub one-divisor : (e d : LumpEvent) → MayHappen e → MayHappen d → after e ≡ after d → divisor e ≡ divisor d
   one-divisor e d m n same = go (m.shaped) (n.shaped)
     where
-      go : IsShaped us e → IsShaped us d → lower e.rate ≡ lower d.rate
-      go (falls p q r) (falls p' q' r') = r ∙ sym r'
-      go (falls p q r) (returns x y z w) =
+      go : IsShaped us e → IsShaped us d → divisor e ≡ divisor d
+      go (falls p q r) (falls p' q' r') = r (share_at us cs e.subsystem) ∙ sym (r' (share_at us cs d.subsystem))
+      go (falls p q r) (returns x y z w o) =
           absurd (omega (arith, none-more e m.fair p q d.group, one-more d n.fair x y z, ap (λ ds. working ds d.group) same))
-      go (returns x y z w) (falls p q r) =
+      go (returns x y z w o) (falls p q r) =
           absurd (omega (arith, none-more d n.fair p q e.group, one-more e m.fair x y z, ap (λ ds. working ds e.group) same))
-      go (returns x y z w) (returns x' y' z' w') = elim (cases_lt e.group d.group) [
+      go (returns x y z w o) (returns x' y' z' w' o') = elim (cases_lt e.group d.group) [
         | inl h ↦ absurd (omega (
           arith,
           others-stay d n.fair x' y' z' e.group (λ k. absurd (omega arith)),
@@ -101,7 +106,11 @@ module _ (us : List Subsystem) (cs : List ℕ) (v : IsCounts (groups_of us) cs) 
             ap
                 (λ ds. working ds e.group) same,
           ))
-          | inr k ↦ let g : e.group ≡ d.group = omega arith in w ∙ ap (hours_at us) g ∙ sym w'
+          | inr k ↦
+              let g : e.group ≡ d.group = omega arith in
+              let own : e.subsystem ≡ d.subsystem = o ∙ ap (owner_at us) g ∙ sym o' in
+              w (share_at us cs e.subsystem) ∙ ap (λ h. hours_at us h * (share_at us cs e.subsystem).den) g
+              ∙ ap (λ i. hours_at us d.group * (share_at us cs i).den) own ∙ sym (w' (share_at us cs d.subsystem))
         ]
       ]
 
@@ -115,5 +124,5 @@ module _ (us : List Subsystem) (cs : List ℕ) (v : IsCounts (groups_of us) cs) 
   pub number-away : (i : ℕ) → cs ≡ counts_numbered (groups_of us) i → (e : LumpEvent) → MayHappen e → number e ≢ i
   number-away i is e m same = leads-away e m (sym (back e m) ∙ ap (counts_numbered (groups_of us)) same ∙ sym is)
 
-  pub number-divisor : (e d : LumpEvent) → MayHappen e → MayHappen d → number e ≡ number d → lower e.rate ≡ lower d.rate
+  pub number-divisor : (e d : LumpEvent) → MayHappen e → MayHappen d → number e ≡ number d → divisor e ≡ divisor d
   number-divisor e d m n same = one-divisor e d m n (sym (back e m) ∙ ap (counts_numbered (groups_of us)) same ∙ back d n)

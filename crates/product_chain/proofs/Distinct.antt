@@ -12,10 +12,10 @@ use Rattle.common_cause.specs.LumpEvents.{lump_events_of}
 use Rattle.common_cause.specs.LumpedRates.{spans, counts_after}
 use Rattle.lumping.proofs.Numbering.{counts_numbered-valid}
 use Rattle.product_chain.specs.declared.step.Step.{Step}
-use Rattle.product_chain.specs.Steps.{joined, lower, times, step_by, steps_over, steps_from, steps_below}
+use Rattle.product_chain.specs.Steps.{joined, times, step_by, steps_over, steps_from, steps_below}
 use Rattle.product_chain.proofs.Events.{IsFair, events_fair}
 use Rattle.product_chain.proofs.Shapes.{IsShaped, events-shaped}
-use Rattle.product_chain.proofs.Apart.{MayHappen, number-away, number-divisor}
+use Rattle.product_chain.proofs.Apart.{MayHappen, divisor, number-away, number-divisor}
 
 abbrev pub one_if : Bool → ℕ
 one_if b = if b then 1 else 0
@@ -91,7 +91,7 @@ pub record IsMade (us : List Subsystem) (cs : List ℕ) (v : IsCounts (groups_of
   pub by : LumpEvent
   pub may : MayHappen us cs v by
   pub target : s.target ≡ number_of (groups_of us) (counts_after (spans us) cs by)
-  pub den : s.den ≡ lower by.rate
+  pub den : s.den ≡ divisor us cs v by
 
 module _ (us : List Subsystem) (cs : List ℕ) (v : IsCounts (groups_of us) cs) (i : ℕ) where
   abbrev Made : Step → Type 0

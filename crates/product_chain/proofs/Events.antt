@@ -1,7 +1,7 @@
 -- The events of a valid loop: where they stand, and how often they happen.
 use Rattle.std.proofs.Common.{◌≡◌, ℕ, zero, suc, ◌+◌, ◌*◌, ◌^◌, ◌<◌, ◌≤◌, inl, inr, List, [], ◌∷◌, ◌++◌, length, get_or, refl, ap, ◌∙◌, arith, length-append}
 use Rattle.std.specs.Prelude.{Bool, true, false, All, map, if◌then◌else◌}
-use Rattle.std.proofs.Math.Nat.{mul-le-mul}
+use Rattle.std.proofs.Math.Nat.{mul-le-mul, mul-pos}
 use Rattle.std.proofs.lemmas.List.{get_or_past}
 use Rattle.std.proofs.lemmas.Bool.{cases_lt}
 use Rattle.std.proofs.lemmas.List.Elements.{All-append, All-cons, All-nil, All-head, All-tail}
@@ -17,6 +17,8 @@ use Rattle.sil_model.specs.declared.parts.Subsystem.{Subsystem}
 use Rattle.channel_counts.specs.GroupSums.{moved_together}
 use Rattle.channel_counts.proofs.Subsystems.{span-same}
 use Rattle.common_cause.specs.declared.event.LumpEvent.{LumpEvent}
+use Rattle.common_cause.specs.declared.share.Share.{Share}
+use Rattle.common_cause.specs.Shares.{IsSmallShare}
 use Rattle.common_cause.specs.LumpEvents.{span_of, failure_units, common_units, kind_rate, groups_events, whole_events, lump_events_from, lump_events_of}
 use Rattle.common_cause.specs.LumpedRates.{spans, times_of, counts_after}
 use Rattle.lumping.proofs.Moves.{IsCounts-moved_in}
@@ -26,9 +28,9 @@ use Rattle.product_chain.specs.Steps.{upper, lower}
 pub record IsFair (us : List Subsystem) (e : LumpEvent) : Type 0 where
   pub subsystem : e.subsystem < length us
   pub inside : e.group + (if e.whole then spans us e.subsystem else 1) ≤ length (groups_of us)
-  pub positive : 0 < lower e.rate
-  pub small : lower e.rate ≤ 10 ^ 18
-  pub slow : upper e.rate ≤ 10 ^ 15
+  pub positive : (share : Share) → IsSmallShare share → 0 < lower share e.rate
+  pub small : (share : Share) → IsSmallShare share → lower share e.rate ≤ 10 ^ 18
+  pub slow : (share : Share) → IsSmallShare share → upper share e.rate ≤ 10 ^ 15
 
 module _ (us : List Subsystem) (a b c : LumpEvent) where
   three : IsFair us a → IsFair us b → IsFair us c → All (IsFair us) (a ∷ b ∷ c ∷ [])
@@ -58,14 +60,20 @@ module _ (u : Subsystem) (v : IsSubsystemInRange u) where
   module _ (us : List Subsystem) (i : ℕ) (inside : i < length us) where
     group_fair : (g : ℕ) (k : Kind) → g + 1 ≤ length (groups_of us)
         → IsFair us (record { subsystem = i; group = g; whole = false; from = source k; to = target k; rate = kind_rate u k })
-    group_fair g (FailsBy f) h = record { subsystem = inside; inside = h; positive = omega arith; small = omega arith; slow = failure-small f }
+    group_fair g (FailsBy f) h = record {
+      subsystem = inside;
+      inside = h;
+      positive = λ share p. omega arith;
+      small = λ share p. omega arith;
+      slow = λ share p. failure-small f;
+    }
     group_fair g Returns h = record {
       subsystem = inside;
       inside = h;
-      positive = omega (arith, v.figures.repair.above);
+      positive = λ share p. mul-pos (omega (arith, v.figures.repair.above)) (omega (arith, p.some, p.most));
       small =
-          omega (arith, v.figures.repair.below);
-      slow = omega arith;
+          λ share p. omega (arith, mul-le-mul v.figures.repair.below p.small);
+      slow = λ share p. omega (arith, p.most, p.small);
     }
 
     whole_fair : (g : ℕ) (f : Failure) → g + spans us i ≤ length (groups_of us)
@@ -78,7 +86,13 @@ module _ (u : Subsystem) (v : IsSubsystemInRange u) where
           rate =
               Rattle.common_cause.specs.declared.event.Rate.TheVariants.Fails (common_units u f);
         })
-    whole_fair g f h = record { subsystem = inside; inside = h; positive = omega arith; small = omega arith; slow = common-small f }
+    whole_fair g f h = record {
+      subsystem = inside;
+      inside = h;
+      positive = λ share p. omega arith;
+      small = λ share p. omega arith;
+      slow = λ share p. common-small f;
+    }
 
     groups_fair : (g n : ℕ) → g + n ≤ length (groups_of us) → All (IsFair us) (groups_events u i g n)
     groups_fair g zero h = All-nil (IsFair us)

@@ -9,7 +9,7 @@ use Rattle.sil_fraction.specs.Sum.{total}
 use Rattle.sil_fraction.proofs.Laws.{zero-add, zero-mul, one-mul, mul_assoc, add_assoc, whole-mul, le_trans, mul-le-left, ratio-mul, le_from_ratio-le, whole-ratio, add_comm}
 use Rattle.sil_fraction.proofs.Sums.{add-zero, mul-one, le-add_right}
 use Rattle.sil_model.specs.State.{FullState}
-use Rattle.sil_model.specs.Events.{events_of, flow_of, step_of, leaving_rate, share_of}
+use Rattle.sil_model.specs.Events.{events_of, flow_of, step_of, leaving_rate}
 use Rattle.sil_model.specs.Sizes.{states_of}
 use Rattle.sil_model.specs.Calendar.{beats_of}
 use Rattle.sil_model.specs.LoopValue.{IsSubsystemInRange, groups_of}
@@ -19,12 +19,15 @@ use Rattle.common_cause.specs.declared.event.Rate.{Rate}
 use Rattle.common_cause.specs.declared.event.Rate.TheVariants.{Fails, Repairs}
 use Rattle.common_cause.specs.declared.event.LumpEvent.{LumpEvent}
 use Rattle.common_cause.specs.LumpEvents.{lump_events_of}
-use Rattle.common_cause.specs.LumpedRates.{spans, shares_from, counts_after, value_of}
+use Rattle.common_cause.specs.LumpedRates.{spans, counts_after, value_of}
+use Rattle.common_cause.specs.declared.share.Share.{Share}
+use Rattle.common_cause.specs.Shares.{IsSmallShare, share_value, share_at}
+use Rattle.common_cause.proofs.Shares.{shares-small, share-counted}
 use Rattle.common_cause.proofs.Flows.{rate_by, lumped_flow, flow_of_counts}
 use Rattle.lumping.proofs.Numbering.{counts_numbered-valid, number_of-counts_numbered, number_of-small}
 use Rattle.model_laws.proofs.Rates.{short, some_beats}
 use Rattle.product_chain.specs.declared.step.Step.{Step}
-use Rattle.product_chain.specs.Steps.{joined, upper, lower, times, step_by, steps_over, steps_from, steps_below, IsSlow}
+use Rattle.product_chain.specs.Steps.{joined, upper, lower, times, share, step_by, steps_over, steps_from, steps_below, IsSlow}
 use Rattle.lumped_laws.specs.CountsOfState.{counts_of_state, number_of_state}
 use Rattle.lumped_laws.specs.StateOfCounts.{state_numbered}
 use Rattle.lumped_laws.specs.ValueLists.{tick_list, at_number}
@@ -34,32 +37,46 @@ use Rattle.product_chain.proofs.Row.{steps_flow, joined_flow, joined_length, ste
 use Rattle.product_chain.proofs.Row.Positive.{none as no_step_left, one as one_positive}
 use Rattle.std.proofs.Math.Nat.{mul-pos}
 
--- each channel in repair has its whole share
-shares-one : (us : List Subsystem) (a : ℕ) (s : FullState) (i : ℕ) → shares_from a us s i ≡ whole 1
-unfolding share_of
-shares-one [] a s i = refl
-shares-one (u ∷ us) a s zero = refl
-shares-one (u ∷ us) a s (suc i) = shares-one us (a + u.vote.n) s i
-
-abbrev one_share : ℕ → Fraction
-one_share i = whole 1
-
-times-value : (m : ℕ) (r : Rate) → whole m *ℚ value_of (whole 1) r ≡ ratio (m * upper r) (lower r)
-times-value m (Fails n) = sym (mul_assoc (whole m) (whole n) (inverse (whole (10 ^ 18)))) ∙ ap (λ x. x *ℚ inverse (whole (10 ^ 18))) (sym (whole-mul m n))
-times-value m (Repairs n) = rw (one-mul (ratio 1 n)) (sym (mul_assoc (whole m) (whole 1) (inverse (whole n)))
-    ∙ ap (λ x. x *ℚ inverse (whole n)) (sym (whole-mul m 1)))
+-- a rate with its share, as a quotient
+times-value : (m : ℕ) (share : Share) (r : Rate) → 0 < share.den → 0 < lower share r → whole m *ℚ value_of (share_value share) r
+    ≡ ratio (m * upper share r) (lower share r)
+times-value m share (Fails n) d p =
+    sym (mul_assoc (whole m) (whole n) (inverse (whole (10 ^ 18)))) ∙ ap (λ x. x *ℚ inverse (whole (10 ^ 18))) (sym (whole-mul m n))
+times-value m share (Repairs n) d p =
+    let some : 0 < n = factor-some n share.den p in
+    let one : share.num * 1 ≡ share.num = omega arith in
+    let swap : share.den * n ≡ n * share.den = omega arith in
+    let both : share_value share *ℚ ratio 1 n ≡ ratio share.num (n * share.den) =
+    ratio-mul share.num share.den 1 n d some ∙ cc (ap (λ a. ratio a (share.den * n)) one, ap (ratio share.num) swap) in
+    rw both (sym (mul_assoc (whole m) (whole share.num) (inverse (whole (n * share.den))))
+    ∙ ap (λ x. x *ℚ inverse (whole (n * share.den))) (sym (whole-mul m share.num)))
+  where
+    factor-some : (n d : ℕ) → 0 < n * d → 0 < n
+    factor-some zero d h = absurd (omega (arith, h))
+    factor-some (suc n) d h = omega arith
 
 module _ (us : List Subsystem) (cs : List ℕ) (i : ℕ) (f : ℕ → Fraction) where
   abbrev after : List ℕ → Fraction
   after d = f (number_of (groups_of us) d)
 
   abbrev term : LumpEvent → Fraction
-  term e = rate_by one_share (spans us) cs e *ℚ after (counts_after (spans us) cs e)
+  term e = rate_by (λ k. share_value (share_at us cs k)) (spans us) cs e *ℚ after (counts_after (spans us) cs e)
 
-  steps_flow-over : (es : List LumpEvent) (ss : List Step) → steps_flow (steps_over us cs i ss es) f ≡ steps_flow ss f +ℚ total term es
-  steps_flow-over [] ss = sym (add-zero _)
-  steps_flow-over (e ∷ es) ss = go (nat_lt 0 (times us cs i e)) refl (steps_flow-over es (joined ss (step_by us cs i e))) (steps_flow-over es ss)
+  steps_flow-over : (es : List LumpEvent) (ss : List Step) → All (IsFair us) es → steps_flow (steps_over us cs i ss es) f ≡ steps_flow ss f +ℚ total term es
+  steps_flow-over [] ss fair = sym (add-zero _)
+  steps_flow-over (e ∷ es) ss fair =
+      go (nat_lt 0 (times us cs i e)) refl (steps_flow-over es (joined ss (step_by us cs i e)) later) (steps_flow-over es ss later)
     where
+      later : All (IsFair us) es
+      later = All-tail (IsFair us) e es fair
+
+      parts : IsSmallShare (share us cs i e)
+      parts = shares-small us 0 cs e.subsystem
+
+      value : whole (times us cs i e) *ℚ value_of (share_value (share us cs i e)) e.rate ≡ ratio (step_by us cs i e).num (step_by us cs i e).den
+      value = times-value (times us cs i e) (share us cs i e) e.rate (omega (arith, parts.some, parts.most))
+          ((All-head (IsFair us) e es fair).positive (share us cs i e) parts)
+
       go : (b : Bool) → nat_lt 0 (times us cs i e) ≡ b
           → steps_flow (steps_over us cs i (joined ss (step_by us cs i e)) es) f ≡ steps_flow (joined ss (step_by us cs i e)) f +ℚ total term es
           → steps_flow (steps_over us cs i ss es) f ≡ steps_flow ss f +ℚ total term es
@@ -68,16 +85,16 @@ module _ (us : List Subsystem) (cs : List ℕ) (i : ℕ) (f : ℕ → Fraction) 
       go true d with_it without =
           with_it
           ∙ ap (λ x. x +ℚ total term es) (joined_flow ss (step_by us cs i e) f ∙ ap (λ x. steps_flow ss f +ℚ x *ℚ f (step_by us cs i e).target)
-          (sym (times-value (times us cs i e) e.rate)))
+          (sym value))
           ∙ add_assoc _ _ _
       go false d with_it without =
           let none : times us cs i e ≡ 0 = omega (arith, ltb-false 0 (times us cs i e) d) in
-          let gone : term e ≡ whole 0 = ap (λ m. (whole m *ℚ value_of (whole 1) e.rate) *ℚ after (counts_after (spans us) cs e)) none
+          let gone : term e ≡ whole 0 = ap (λ m. (whole m *ℚ value_of (share_value (share us cs i e)) e.rate) *ℚ after (counts_after (spans us) cs e)) none
           ∙ ap (λ x. x *ℚ after (counts_after (spans us) cs e)) (zero-mul _) ∙ zero-mul _ in
           without ∙ ap (λ x. steps_flow ss f +ℚ x) (sym (ap (λ x. x +ℚ total term es) gone ∙ zero-add _))
 
 -- the flow from a count vector, by its steps
-module _ (us : List Subsystem) (i : ℕ) where
+module _ (us : List Subsystem) (r : All IsSubsystemInRange us) (i : ℕ) where
   abbrev state : FullState
   state = state_numbered us i
 
@@ -89,9 +106,10 @@ module _ (us : List Subsystem) (i : ℕ) where
   flow-steps f =
       flow_of_counts us (λ c. f (number_of (groups_of us) c)) state
       ∙ ap (λ (r : ℕ → Fraction). lumped_flow r (spans us) (lump_events_of us) (λ c. f (number_of (groups_of us) c)) (counts_of_state us state))
-      (fun_ext (shares-one us 0 state))
-      ∙ ap (lumped_flow one_share (spans us) (lump_events_of us) (λ c. f (number_of (groups_of us) c))) state-counts
-      ∙ sym (steps_flow-over us (counts_numbered (groups_of us) i) i f (lump_events_of us) [] ∙ zero-add _)
+      (fun_ext (share-counted us state))
+      ∙ ap (λ (cs : List ℕ). lumped_flow (λ k. share_value (share_at us cs k)) (spans us) (lump_events_of us) (λ c. f (number_of (groups_of us) c)) cs)
+      state-counts
+      ∙ sym (steps_flow-over us (counts_numbered (groups_of us) i) i f (lump_events_of us) [] (events_fair us r) ∙ zero-add _)
 
   pub leaving-steps : leaving_rate (events_of us) state ≡ steps_flow (steps_from us i) (λ j. whole 1)
   leaving-steps = flow-steps (λ j. whole 1)
@@ -141,7 +159,12 @@ module _ (us : List Subsystem) (cs : List ℕ) (v : IsCounts (groups_of us) cs) 
       here = All-head (IsFair us) e es fair
 
       mine : 0 < times us cs i e → IsStep (states_of us) i (step_by us cs i e)
-      mine p = record { source = refl; target = number_of-small (groups_of us) _ (after-valid us cs e here v p); positive = here.positive; small = here.small }
+      mine p = record {
+        source = refl;
+        target = number_of-small (groups_of us) _ (after-valid us cs e here v p);
+        positive = here.positive (share us cs i e) (shares-small us 0 cs e.subsystem);
+        small = here.small (share us cs i e) (shares-small us 0 cs e.subsystem);
+      }
 
       go : (b : Bool) → nat_lt 0 (times us cs i e) ≡ b
           → (0 < times us cs i e → All (IsStep (states_of us) i) (steps_over us cs i (joined ss (step_by us cs i e)) es))
@@ -180,8 +203,8 @@ module _ (us : List Subsystem) (r : All IsSubsystemInRange us) where
     slow = λ hours beats enough.
         let s : Step = get_or (steps_from us i) k d in
         let some : 0 < beats = omega (arith, some_beats us hours) in
-        let law = (short us r hours beats enough).leaves (state us i) in
-        let all : ratio hours beats *ℚ steps_flow (steps_from us i) (λ j. whole 1) ≤ℚ whole 1 = rw (leaving-steps us i) at law in
+        let law = (short us r hours beats enough).leaves (state us r i) in
+        let all : ratio hours beats *ℚ steps_flow (steps_from us i) (λ j. whole 1) ≤ℚ whole 1 = rw (leaving-steps us r i) at law in
         let one : ratio hours beats *ℚ ratio s.num s.den ≤ℚ whole 1 =
         le_trans _ _ _ (mul-le-left (ratio hours beats) _ _ (step-le (steps_from us i) k d h)) all in
         let both : ratio (hours * s.num) (beats * s.den) ≤ℚ ratio 1 1 =
@@ -225,4 +248,4 @@ module _ (us : List Subsystem) (r : All IsSubsystemInRange us) where
 
   -- short beats leave a row at most 1
   pub row-short : (i hours beats : ℕ) → beats_of us hours ≤ beats → ratio hours beats *ℚ steps_flow (steps_from us i) (λ j. whole 1) ≤ℚ whole 1
-  row-short i hours beats enough = rw (leaving-steps us i) at ((short us r hours beats enough).leaves (state us i))
+  row-short i hours beats enough = rw (leaving-steps us r i) at ((short us r hours beats enough).leaves (state us r i))

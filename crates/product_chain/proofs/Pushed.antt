@@ -14,6 +14,9 @@ use Rattle.common_cause.specs.declared.event.LumpEvent.{LumpEvent}
 use Rattle.common_cause.specs.declared.event.Rate.TheVariants.{Fails}
 use Rattle.common_cause.specs.LumpEvents.{lump_events_of}
 use Rattle.common_cause.specs.LumpedRates.{spans, times_of, counts_after}
+use Rattle.common_cause.specs.declared.share.Share.{Share}
+use Rattle.common_cause.specs.Shares.{share_at}
+use Rattle.common_cause.proofs.Shares.{shares-small}
 use Rattle.common_cause.proofs.Listed.{length-events}
 use Rattle.lumping.proofs.Few.{groups-few}
 use Rattle.lumping.proofs.Numbering.{counts_numbered-valid}
@@ -79,10 +82,12 @@ module _ (l : LoopValue) (v : IsValid l) (es : List LumpEvent) (listed : es ≡ 
         pub after-counts : IsCounts (groups_of us) after
         after-counts = rw after-is (after-valid us cs e fair valid-counts (omega (arith, times-is)))
 
-        pub step-is : (target num den units : ℕ) → target ≡ number_of (groups_of us) after → units ≡ upper e.rate → den ≡ lower e.rate
+        pub step-is : (target num den units : ℕ) (share : Share) → target ≡ number_of (groups_of us) after → share ≡ share_at us cs e.subsystem
+            → units ≡ upper share e.rate → den ≡ lower share e.rate
             → num ≡ times-here * units → (x : Step) → x ≡ record { source = i; target = target; num = num; den = den } → x ≡ step_by us cs i e
-        step-is target num den units t n d m x s = rw (s, t, m, n, d, times-is, after-is) refl
+        step-is target num den units share t h n d m x s = rw (s, t, m, n, d, h, times-is, after-is) refl
 
     -- a number of a step is small
-    pub num-small : (t units : ℕ) → t ≤ 255 → units ≡ upper e.rate → t * units ≤ 2 ^ 58
-    num-small t units h n = let p : units ≤ 10 ^ 15 = omega (arith, fair.slow) in omega (arith, mul-le-mul h p)
+    pub num-small : (t units : ℕ) (share : Share) → t ≤ 255 → share ≡ share_at us cs e.subsystem → units ≡ upper share e.rate → t * units ≤ 2 ^ 58
+    num-small t units share h s n =
+        let p : units ≤ 10 ^ 15 = rw (n, s) (fair.slow (share_at us cs e.subsystem) (shares-small us 0 cs e.subsystem)) in omega (arith, mul-le-mul h p)

@@ -71,7 +71,7 @@ module _ (us : List Subsystem) (r : All IsSubsystemInRange us) (hours beats : �
 
   -- each row is below the exact one
   row-exact : (f : ℕ → Fraction) (i : ℕ) → i < n → row_of hours beats (steps_from us i) i f ≤ℚ tick_list us (ratio hours beats) f i *ℚ whole scale
-  row-exact f i h = rw (← tick-steps us i hours beats f h) (row_below hours beats some (steps_from us i) (positive us r i) i f)
+  row-exact f i h = rw (← tick-steps us r i hours beats f h) (row_below hours beats some (steps_from us i) (positive us r i) i f)
 
   module _ (v to : ℕ → ℕ) (floors : (j : ℕ) → j < n → to j ≡ given v (column j) / scale) where
     floor-le : (j : ℕ) → j < n → to j * scale ≤ given v (column j)

@@ -166,7 +166,7 @@ module _ (us : List Subsystem) (r : All IsSubsystemInRange us) (hours beats : �
     chance-flow j ne =
         let none : one_at j i ≡ whole 0 = rw (ne_eqb i j ne) refl in
         ap (λ x. x *ℚ whole scale)
-        (sym (tick-steps us i hours beats (one_at j) inside) ∙ rw (none, mul-zero (whole 1 -ℚ ratio hours beats *ℚ steps_flow ss (λ k. whole 1))) (add-zero _))
+        (sym (tick-steps us r i hours beats (one_at j) inside) ∙ rw (none, mul-zero (whole 1 -ℚ ratio hours beats *ℚ steps_flow ss (λ k. whole 1))) (add-zero _))
 
     chance-once : (j : ℕ) → i ≢ j → (o : LeadsOnce j ss) → chance_of us hours beats i j ≡ ratio (hours * o.step.num * scale) (beats * o.step.den)
     chance-once j ne o =
@@ -241,7 +241,7 @@ module _ (us : List Subsystem) (r : All IsSubsystemInRange us) (hours beats : �
 
     pub row : IsRow us hours beats i
     row = record {
-      below = λ j h. rw (← row-weight j, ← tick-steps us i hours beats (one_at j) inside) (row_below hours beats some ss (positive us r i) i (one_at j));
+      below = λ j h. rw (← row-weight j, ← tick-steps us r i hours beats (one_at j) inside) (row_below hours beats some ss (positive us r i) i (one_at j));
       most = rw row-sum (row_within hours beats some ss (positive us r i) (row-short us r i hours beats enough));
       least = omega (arith, row-sum, row_lacks hours beats some ss (positive us r i), from-length us r i, length-events us);
     }

@@ -9,6 +9,10 @@ use Rattle.product_chain.specs.Steps.{scale, down_of, up_of}
 abbrev pub no_rate : TickRate
 no_rate = record { num = 0; den = 0; down = 0; up = 0 }
 
+-- the quotient of a rate
+abbrev pub quotient : TickRate → ℕ × ℕ
+quotient r = (r.num, r.den)
+
 module _ (rates : List TickRate) where
   abbrev pub rate_of : Move → TickRate
   rate_of m = slice_index_or rates m.rate no_rate

@@ -7,8 +7,10 @@ use Rattle.sil_model.specs.declared.parts.Subsystem.{Subsystem}
 use Rattle.common_cause.specs.declared.event.Rate.{Rate}
 use Rattle.common_cause.specs.declared.event.Rate.TheVariants.{Fails, Repairs}
 use Rattle.common_cause.specs.declared.event.LumpEvent.{LumpEvent}
+use Rattle.common_cause.specs.declared.share.Share.{Share}
 use Rattle.common_cause.specs.LumpEvents.{lump_events_of}
 use Rattle.common_cause.specs.LumpedRates.{spans, times_of, counts_after}
+use Rattle.common_cause.specs.Shares.{share_at}
 use Rattle.product_chain.specs.declared.step.Step.{Step}
 
 -- the number 1 in units of a weight
@@ -26,22 +28,26 @@ joined_at [] i t = t ∷ []
 joined_at (s ∷ ss) zero t = record s { num = s.num + t.num } ∷ ss
 joined_at (s ∷ ss) (suc i) t = s ∷ joined_at ss i t
 
--- a rate per hour as a quotient
-abbrev pub upper : Rate → ℕ
-upper (Fails n) = n
-upper (Repairs n) = 1
+-- a rate per hour as a quotient, where each channel in repair has a share of the crews
+abbrev pub upper : Share → Rate → ℕ
+upper share (Fails n) = n
+upper share (Repairs n) = share.num
 
-abbrev pub lower : Rate → ℕ
-lower (Fails n) = 10 ^ 18
-lower (Repairs n) = n
+abbrev pub lower : Share → Rate → ℕ
+lower share (Fails n) = 10 ^ 18
+lower share (Repairs n) = n * share.den
 
 module _ (us : List Subsystem) (cs : List ℕ) (i : ℕ) where
   abbrev pub times : LumpEvent → ℕ
   times e = times_of (spans us) cs e
 
+  -- the share of the channels in repair of its subsystem
+  abbrev pub share : LumpEvent → Share
+  share e = share_at us cs e.subsystem
+
   -- the step of an event from the count vector cs of the number i
   abbrev pub step_by : LumpEvent → Step
-  step_by e = record { source = i; target = number_of (groups_of us) (counts_after (spans us) cs e); num = times e * upper e.rate; den = lower e.rate }
+  step_by e = record { source = i; target = number_of (groups_of us) (counts_after (spans us) cs e); num = times e * upper (share e) e.rate; den = lower (share e) e.rate }
 
   -- the steps of some events, joined
   abbrev pub steps_over : List Step → List LumpEvent → List Step

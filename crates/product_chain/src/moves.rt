@@ -7,11 +7,12 @@ ghost use Rattle.sil_model.specs.declared.parts.Subsystem.{Subsystem as Subsyste
 ghost use Rattle.product_chain.specs.declared.moves.Move.{Move as MoveValue};
 ghost use Rattle.product_chain.specs.declared.moves.TickRate.{TickRate as TickRateValue};
 ghost use Rattle.product_chain.specs.Steps.{steps_below, IsSlow};
-ghost use Rattle.product_chain.specs.Columns.{AreParts, part, step_of_move, no_rate};
+ghost use Rattle.product_chain.specs.Columns.{AreParts, part, step_of_move, no_rate, quotient};
 
 use crate::step::{Step, push_steps};
 use channel_counts::STATES;
 use common_cause::events;
+use indexmap::IndexSet;
 use lumping::Space;
 use sil_model::Loop;
 use std::alloc::{AllocError, Global};
@@ -72,6 +73,7 @@ fn moves_by_source(
     let _ = l.mission();
     let events = events(alloc, l)?;
     let mut rates = Vec::new(alloc);
+    let mut numbers = IndexSet::new(alloc);
     let mut moves = Vec::with_capacity(alloc, events.len() * space.size())?;
     let mut own = Vec::with_capacity(alloc, events.len())?;
     let mut counts = vec![in alloc; 0u8; STATES * l.groups()]?;
@@ -88,27 +90,30 @@ fn moves_by_source(
             counts.as_slice(),
             after.as_mut_slice(),
         )?;
-        push_moves(&mut moves, &mut rates, own.as_slice())?;
+        push_moves(&mut moves, &mut rates, &mut numbers, own.as_slice())?;
     }
     Ok((moves, rates))
 }
 
-/// Adds a move for each step, and the rates that are new.
+/// Adds a move for each step, and the rates that are new. `numbers` has the quotients of the rates, in their order.
 fn push_moves(
     moves: &mut Vec<Move>,
     rates: &mut Vec<TickRate>,
+    numbers: &mut IndexSet<(u128, u128)>,
     steps: &[Step],
 ) -> Result<(), AllocError>
     requires few { length rates.old.items + length steps.now < 2 ^ 32 }
     requires small { All (λ s. (s.source < 2 ^ 32) × (s.target < 2 ^ 32)) steps.now }
     requires known { All (λ m. m.rate < length rates.old.items) moves.old.items }
+    requires numbered { numbers.old.keys ≡ map quotient rates.old.items }
     ensures steps { IfOk result (λ _. map (step_of_move rates.new.items) moves.new.items ≡ map (step_of_move rates.old.items) moves.old.items ++ steps.now) }
     ensures known { IfOk result (λ _. All (λ m. m.rate < length rates.new.items) moves.new.items) }
     ensures slow { IfOk result (λ _. (us : List SubsystemValue) → All (λ s. IsSlow us s.num s.den) steps.now → All (λ r. IsSlow us r.num r.den) rates.old.items → All (λ r. IsSlow us r.num r.den) rates.new.items) }
     ensures few { IfOk result (λ _. length rates.new.items ≤ length rates.old.items + length steps.now) }
+    ensures numbered { IfOk result (λ _. numbers.new.keys ≡ map quotient rates.new.items) }
 {
     for step in steps {
-        let rate = rate_number(rates, step.num, step.den)?;
+        let rate = rate_number(rates, numbers, step.num, step.den)?;
         moves.push(Move {
             source: step.source as u32,
             target: step.target as u32,
@@ -119,35 +124,32 @@ fn push_moves(
 }
 
 /// The number of a rate, which is added where it is a new one.
-fn rate_number(rates: &mut Vec<TickRate>, num: u128, den: u128) -> Result<usize, AllocError>
+fn rate_number(
+    rates: &mut Vec<TickRate>,
+    numbers: &mut IndexSet<(u128, u128)>,
+    num: u128,
+    den: u128,
+) -> Result<usize, AllocError>
+    requires numbered { numbers.old.keys ≡ map quotient rates.old.items }
     ensures number { IfOk result (λ n. n < length rates.new.items) }
     ensures rate { IfOk result (λ n. ((slice_index_or rates.new.items n no_rate).num ≡ num) × ((slice_index_or rates.new.items n no_rate).den ≡ den)) }
     ensures more { IfOk result (λ _. (rs : List TickRateValue) × (rates.new.items ≡ rates.old.items ++ rs) × All (λ r. (r.num ≡ num) × (r.den ≡ den)) rs) }
     ensures few { length rates.new.items ≤ length rates.old.items + 1 }
+    ensures numbered { IfOk result (λ _. numbers.new.keys ≡ map quotient rates.new.items) }
 {
-    let number = find_rate(rates.as_slice(), num, den);
-    if number == rates.len() {
-        rates.push(TickRate {
-            num,
-            den,
-            down: 0,
-            up: 0,
-        })?;
-    }
-    Ok(number)
-}
-
-/// The number of a rate among these, or how many there are.
-fn find_rate(rates: &[TickRate], num: u128, den: u128) -> usize
-    ensures within { result ≤ length rates.now }
-    ensures rate { result < length rates.now → ((slice_index_or rates.now result no_rate).num ≡ num) × ((slice_index_or rates.now result no_rate).den ≡ den) }
-{
-    for (number, rate) in rates.iter().enumerate() {
-        if rate.num == num && rate.den == den {
-            return number;
+    match numbers.insert_full((num, den)) {
+        Ok((number, true)) => {
+            rates.push(TickRate {
+                num,
+                den,
+                down: 0,
+                up: 0,
+            })?;
+            Ok(number)
         }
+        Ok((number, false)) => Ok(number),
+        Err(_) => Err(AllocError),
     }
-    rates.len()
 }
 
 /// Where the moves to each target begin, and where the last of them end. The moves lie in the order of their targets.

@@ -11,7 +11,7 @@ ghost use Rattle.common_cause.specs.LumpedRates.{times_of, counts_after};
 ghost use Rattle.product_chain.specs.Steps.{joined, joined_at, upper, lower, steps_from};
 
 use channel_counts::{STATES, count_in, groups_in, move_in, sum_in};
-use common_cause::{LumpEvent, Rate};
+use common_cause::{LumpEvent, Rate, Share, share_at};
 use lumping::Space;
 use sil_model::{Chan, Loop};
 use std::alloc::AllocError;
@@ -54,7 +54,8 @@ pub fn push_steps(
         if times > 0 {
             after.copy_from_slice(counts);
             move_event(after, event, groups);
-            let (units, den) = quotient_of(event.rate);
+            let share = share_at(l, usize::from(event.subsystem), counts);
+            let (units, den) = quotient_of(event.rate, share);
             let step = Step {
                 source,
                 target: space.rank(after),
@@ -116,14 +117,17 @@ fn move_together(counts: &mut [u8], first: usize, groups: usize, to: Chan)
     }
 }
 
-/// A rate as a quotient per hour.
-fn quotient_of(rate: Rate) -> (u128, u128)
-    ensures num { result.0 ≡ upper rate }
-    ensures den { result.1 ≡ lower rate }
+/// A rate as a quotient per hour, where each channel in repair has a share of the crews.
+fn quotient_of(rate: Rate, share: Share) -> (u128, u128)
+    ensures num { result.0 ≡ upper share rate }
+    ensures den { result.1 ≡ lower share rate }
 {
     match rate {
         Rate::Fails(units) => (units, 1_000_000_000_000_000_000),
-        Rate::Repairs(hours) => (1, u128::from(hours)),
+        Rate::Repairs(hours) => (
+            u128::from(share.num),
+            u128::from(hours) * u128::from(share.den),
+        ),
     }
 }
 

@@ -1,4 +1,4 @@
-use Rattle.std.proofs.Common.{◌≡◌, ◌≤◌, length, arith, ap}
+use Rattle.std.proofs.Common.{◌≡◌, ◌≤◌, length, arith, ap, refl}
 use Rattle.std.specs.Prelude.{map}
 use Rattle.std.proofs.Math.Nat.{mul-le-mul}
 use Rattle.sil_model.specs.Sizes.{states_of}
@@ -20,6 +20,7 @@ loop-i-init c = record {
   steps = rw c.in_ok-moves.ensures.items (below-none c.args.l.now.subsystems);
   known = rw c.in_ok-moves.ensures.items (λ k d h. absurd (omega arith));
   slow = rw c.new-rates.ensures.items (λ k d h. absurd (omega arith));
+  numbered = rw (c.new-rates.ensures.items, c.new-numbers.ensures.empty) refl;
   few = omega (arith, ap length c.new-rates.ensures.items);
   counts = omega (arith, c.in_ok-counts.ensures.len, c.groups.ensures.groups);
   after = omega (arith, c.in_ok-after.ensures.len, c.groups-2.ensures.groups);
@@ -54,6 +55,7 @@ loop-i-preserved c = record {
       (rw (c.as_slice-in-loop-i-2.ensures.value, c.in_ok-push_steps.ensures)
       (slow-steps c.args.l.now.subsystems c.mission.ensures.valid.subsystems c.loop-i.i))
       c.loop-i.invariant.slow;
+  numbered = c.in_ok-push_moves.ensures.numbered;
   few =
       omega (
         arith,

@@ -27,5 +27,6 @@ loop-step-preserved c =
       slow = λ us all old.
           slow-turn rates more.0 c.rate_number.new.rates.items c.loop-step.moves.items c.args.steps.now i c.in_ok-rate.rate s more.1
           c.loop-step.invariant.known c.loop-step-test.true here us more.2 all (c.loop-step.invariant.slow us all old);
+      numbered = c.in_ok-rate.ensures.numbered;
       few = omega arith;
     }

@@ -3,7 +3,7 @@ use Rattle.common_cause.specs.declared.event.LumpEvent.{LumpEvent}
 use Rattle.product_chain.specs.declared.step.Step.{Step}
 use Rattle.product_chain.specs.Steps.{joined, step_by}
 use Rattle.product_chain.proofs.Over.{over-start, over-yes, over-no, over-end, joined-small}
-use Rattle.product_chain.proofs.Pushed.{fair, small-counts, index-small, groups-here, inside-here, times-is, after-counts, step-is, num-small, read, no_event}
+use Rattle.product_chain.proofs.Pushed.{fair, small-counts, index-small, groups-here, inside-here, times-is, after-counts, valid-counts, step-is, num-small, read, no_event}
 use Rattle.product_chain.proofs.step.push_steps.Goals as goal
 use Rattle.product_chain.proofs.step.push_steps.Goals.{then-times-gt0+in_ok-add_step, else-times-gt0}
 
@@ -55,7 +55,21 @@ pub overflow_mul-step : goal.overflow_mul-step
 overflow_mul-step c = let h = num-small c.args.l.now c.requires.valid c.args.events.now c.requires.events c.args.counts.now c.args.source
     c.requires.counts c.loop-event.event-index c.loop-event-test.true c.subsystem.result.now c.groups_in-groups.result
     (λ d. rw c.from.ensures at (c.subsystem.ensures d)) c.groups_in-groups.ensures c.times_of-times.result c.quotient_of-units.result.0
-    c.times_of-times.ensures.small c.quotient_of-units.ensures.num in omega (arith, h)
+    c.share_at-share.result c.times_of-times.ensures.small (rw c.from-then-times-gt0.ensures at c.share_at-share.ensures) c.quotient_of-units.ensures.num in omega (arith, h)
+
+pub share_at-share-requires-clause-inside : goal.share_at-share-requires-clause-inside
+share_at-share-requires-clause-inside c =
+    omega (
+      arith,
+      c.from-then-times-gt0.ensures,
+      (fair c.args.l.now c.requires.valid c.args.events.now c.requires.events c.args.counts.now c.args.source
+          c.requires.counts c.loop-event.event-index c.loop-event-test.true).subsystem,
+    )
+
+pub share_at-share-requires-clause-counts : goal.share_at-share-requires-clause-counts
+share_at-share-requires-clause-counts c =
+    (valid-counts c.args.l.now c.requires.valid c.args.events.now c.requires.events c.args.counts.now c.args.source c.requires.counts
+    c.loop-event.event-index c.loop-event-test.true).four_each
 
 pub add_step-requires : goal.add_step-requires
 add_step-requires c =
@@ -65,7 +79,7 @@ add_step-requires c =
     num-small c.args.l.now c.requires.valid c.args.events.now c.requires.events c.args.counts.now c.args.source c.requires.counts
     c.loop-event.event-index c.loop-event-test.true c.subsystem.result.now c.groups_in-groups.result
     (λ d. rw c.from.ensures at (c.subsystem.ensures d)) c.groups_in-groups.ensures c.times_of-times.result c.quotient_of-units.result.0
-    c.times_of-times.ensures.small c.quotient_of-units.ensures.num in
+    c.share_at-share.result c.times_of-times.ensures.small (rw c.from-then-times-gt0.ensures at c.share_at-share.ensures) c.quotient_of-units.ensures.num in
     λ k d h. omega (arith, few, own, c.loop-event.invariant.small k d h)
 
 pub loop-event-init : goal.loop-event-init
@@ -88,7 +102,7 @@ loop-event-preserved c =
           num-small c.args.l.now c.requires.valid c.args.events.now c.requires.events c.args.counts.now c.args.source c.requires.counts
           c.loop-event.event-index c.loop-event-test.true c.subsystem.result.now c.groups_in-groups.result
           (λ d. rw c.from.ensures at (c.subsystem.ensures d)) c.groups_in-groups.ensures c.times_of-times.result w.quotient_of-units.result.0
-          c.times_of-times.ensures.small w.quotient_of-units.ensures.num in
+          w.share_at-share.result c.times_of-times.ensures.small (rw w.from-then-times-gt0.ensures at w.share_at-share.ensures) w.quotient_of-units.ensures.num in
           let step : Step = record {
             source = c.args.source;
             target = w.rank.result;
@@ -102,7 +116,7 @@ loop-event-preserved c =
           (λ d. rw c.from.ensures at (c.subsystem.ensures d)) c.groups_in-groups.ensures c.times_of-times.result c.times_of-times.ensures.times
           w.if-times-gt0.true w.move_event.new.counts w.copy_from_slice.new.self w.copy_from_slice.ensures.after w.move_event.ensures
           w.rank.result (c.times_of-times.result * w.quotient_of-units.result.0) w.quotient_of-units.result.1 w.quotient_of-units.result.0
-          (rw c.requires.space at w.rank.ensures.number) w.quotient_of-units.ensures.num w.quotient_of-units.ensures.den refl step refl in
+          w.share_at-share.result (rw c.requires.space at w.rank.ensures.number) (rw w.from-then-times-gt0.ensures at w.share_at-share.ensures) w.quotient_of-units.ensures.num w.quotient_of-units.ensures.den refl step refl in
           let items : c.if-times-gt0.steps.items ≡ joined c.loop-event.steps.items step = rw w.steps-is w.in_ok-add_step.ensures in
           record {
             left =
