@@ -1,6 +1,7 @@
 pub mod RowVectors
 pub mod Products
 pub mod Weights
+pub mod RowProducts
 pub mod Lacks
 pub mod Pairs
 pub mod Digits

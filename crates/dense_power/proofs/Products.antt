@@ -1,6 +1,6 @@
 -- A row of whole numbers times a matrix, rounded down: the sum of what comes out.
 use Rattle.std.proofs.Common.{◌≡◌, ℕ, zero, suc, ◌+◌, ◌*◌, ◌/◌, ◌^◌, ◌<◌, ◌≤◌, refl, sym, ap, ◌∙◌, arith, inl, inr}
-use Rattle.std.proofs.Math.Nat.{div-mul-le_self, lt-div-mul-add, mul-le-mul_right, le_of_mul-le-mul_right, pow-suc}
+use Rattle.std.proofs.Math.Nat.{div-mul-le_self, lt-div-mul-add, mul-le-mul_left, mul-le-mul_right, le_of_mul-le-mul_right, pow-suc}
 use Rattle.std.proofs.lemmas.Nat.{mul-le}
 use Rattle.std.proofs.lemmas.Bool.{cases_lt}
 use Rattle.sil_fraction.specs.Sum.{sum_below}
@@ -61,19 +61,31 @@ module _ (n P : ℕ) (some : 0 < P) (v : ℕ → ℕ) (b : ℕ → ℕ → ℕ) 
       let e : sum_below n (λ k. B * v k) ≡ B * sum_below n v = sum-mul n B v in
       le_of_mul-le-mul_right {k = P} (omega (arith, rounded_up_to, all_products, each, e, mul-le-mul_right B mass)) some
 
-  -- where each row of b is within D of t times P, and the row v within L of P, what comes out lacks little of t times P
-  pub sum-rounded-ge : (t D L : ℕ) → sum_below n v ≤ P → P ≤ sum_below n v + L → ((k : ℕ) → k < n → t * P ≤ sum_below n (b k) + D)
-      → t * P ≤ sum_below n rounded + (n + D + t * L)
-  sum-rounded-ge t D L mass near rows =
-      let each : sum_below n (λ k. (t * P) * v k) ≤ sum_below n (λ k. v k * sum_below n (b k) + D * v k) =
+  -- where each row of b comes to at most t times P, what comes out is at most t times the row
+  pub sum-rounded-most : (t : ℕ) → ((k : ℕ) → k < n → sum_below n (b k) ≤ t * P) → sum_below n rounded ≤ t * sum_below n v
+  sum-rounded-most t rows =
+      let each : sum_below n (λ k. v k * sum_below n (b k)) ≤ sum_below n (λ k. (t * P) * v k) =
       sum-le n _ _ (λ k h. omega (arith, mul-le-mul_right (v k) (rows k h))) in
+      let e : sum_below n (λ k. (t * P) * v k) ≡ (t * P) * sum_below n v = sum-mul n (t * P) v in
+      le_of_mul-le-mul_right {k = P} (omega (arith, rounded_up_to, all_products, each, e)) some
+
+  -- and where each is within D of it, what comes out lacks little of t times the row
+  pub sum-rounded-least : (t D : ℕ) → sum_below n v ≤ P → ((k : ℕ) → k < n → t * P ≤ sum_below n (b k) + D)
+      → t * sum_below n v ≤ sum_below n rounded + (n + D)
+  sum-rounded-least t D mass near =
+      let each : sum_below n (λ k. (t * P) * v k) ≤ sum_below n (λ k. v k * sum_below n (b k) + D * v k) =
+      sum-le n _ _ (λ k h. omega (arith, mul-le-mul_right (v k) (near k h))) in
       let e : sum_below n (λ k. (t * P) * v k) ≡ (t * P) * sum_below n v = sum-mul n (t * P) v in
       let g : sum_below n (λ k. v k * sum_below n (b k) + D * v k) ≡ sum_below n (λ k. v k * sum_below n (b k)) + sum_below n (λ k. D * v k) = sum-add n _ _ in
       let f : sum_below n (λ k. D * v k) ≡ D * sum_below n v = sum-mul n D v in
       let scaled : (t * sum_below n v) * P ≤ (sum_below n rounded + n + D) * P =
       omega (arith, each, e, g, f, all_products, rounded_down_by, mul-le-mul_right D mass) in
-      let kept : t * sum_below n v ≤ sum_below n rounded + n + D = le_of_mul-le-mul_right {k = P} scaled some in
-      omega (arith, kept, mul-le-mul_right t near)
+      omega (arith, le_of_mul-le-mul_right {k = P} scaled some)
+
+  -- where the row v is within L of P besides, it lacks little of t times P
+  pub sum-rounded-ge : (t D L : ℕ) → sum_below n v ≤ P → P ≤ sum_below n v + L → ((k : ℕ) → k < n → t * P ≤ sum_below n (b k) + D)
+      → t * P ≤ sum_below n rounded + (n + D + t * L)
+  sum-rounded-ge t D L mass near rows = omega (arith, sum-rounded-least t D mass rows, mul-le-mul_left t near)
 
 -- two sums of products whose first factors are the same
 pub sum-same_row : (m n : ℕ) (x y z : ℕ → ℕ) → m ≡ n → ((k : ℕ) → k < n → x k ≡ y k) → sum_below m (λ k. x k * z k) ≡ sum_below n (λ k. y k * z k)

@@ -1,5 +1,6 @@
 -- The rows of a matrix, by their entries.
-use Rattle.std.proofs.Common.{◌≡◌, ℕ, ◌+◌, ◌^◌, ◌<◌, ◌≤◌, length, get_or, sum, ap, ◌∙◌, arith}
+use Rattle.std.proofs.Common.{◌≡◌, ℕ, ◌+◌, ◌^◌, ◌<◌, ◌≤◌, length, get_or, slice_index, sum, List, sym, ap, ◌∙◌, arith}
+use Rattle.std.proofs.lemmas.Grind.{same_number_lists}
 use Rattle.std.proofs.lemmas.List.FromFn.{get_or-map-range_with_len, length-map-range_with_len}
 use Rattle.sil_fraction.specs.Fraction.{Fraction, ◌*ℚ◌, ◌≤ℚ◌, whole}
 use Rattle.sil_fraction.specs.Sum.{total_below, sum_below}
@@ -32,6 +33,15 @@ module _ (m : Matrix) (i : ℕ) where
 
   pub weigh-row_of : (f : Values ℕ) → weigh (row_of m i) f ≡ row_weight f
   weigh-row_of f = weigh-below (row_of m i) f ∙ rw length-row_of (below-same m.size _ _ (λ j h. ap (λ n. whole n *ℚ f j) (row_of-at j h)))
+
+-- a row is known by its entries
+pub row_is : (m : Matrix) (i : ℕ) (row : List ℕ) → length row ≡ m.size → ((j : ℕ) → j < m.size → entry_of m i j ≡ slice_index row j) → row_of m i ≡ row
+row_is m i row long h = same_number_lists (row_of m i) row (length-row_of m i ∙ sym long)
+    (λ j p. let inside : j < m.size = omega (arith, length-row_of m i) in row_of-at m i j inside ∙ h j inside)
+
+pub same_row : (m n : Matrix) (i : ℕ) → m.size ≡ n.size → ((j : ℕ) → j < m.size → entry_of m i j ≡ entry_of n i j) → row_of m i ≡ row_of n i
+same_row m n i size h = row_is m i (row_of n i) (length-row_of n i ∙ sym size)
+    (λ j p. h j p ∙ sym (row_of-at n i j (omega (arith, size))))
 
 -- what is said of each row, by its entries
 module _ (m : Matrix) where

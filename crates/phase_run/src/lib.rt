@@ -100,8 +100,9 @@ fn pass_beats<L: Ledger>(
     }
 }
 
-/// Adds hours times the mean of a dwell over its beats, and makes the dwell its mean, both rounded down.
-fn settle(dwell: &mut [u128], beats: u64, hours: u64, dwell_hours: &mut [u128])
+/// Adds hours times the mean of a dwell over its beats, and makes the dwell its mean, both rounded down. It ends a phase,
+/// however its beats were passed.
+pub fn settle(dwell: &mut [u128], beats: u64, hours: u64, dwell_hours: &mut [u128])
     requires size { length dwell_hours.old ≡ length dwell.old }
     requires some { 0 < beats }
     requires few { beats ≤ 1_000_000 }

@@ -1,0 +1,171 @@
+//! The matrices of a phase, and a vector times these.
+
+ghost use Rattle.std.specs.Prelude.{◌≡◌, ℕ, Some, None, ◌+◌, ◌*◌, ◌^◌, ◌<◌, ◌≤◌, length, vec_len, IfOk, IsTrue};
+ghost use Rattle.sil_model.specs.Sizes.{states_of};
+ghost use Rattle.uniformise.specs.Beat.{beat_products};
+ghost use Rattle.vector_laws.specs.Vectors.{IsMass};
+ghost use Rattle.dense_power.specs.Matrix.{EachEntryAtMost, IsRowProductDown};
+ghost use Rattle.phase_powers.specs.Kept.{IsOfNoOther, IsOfPhase, loop_of};
+ghost use Rattle.phase_powers.specs.Products.{making_products};
+ghost use Rattle.phase_powers.specs.Rooms.{AreMatrices};
+
+use crate::kept::KeptPhase;
+use crate::rows::make_beat_pair;
+use dense_power::{Dense, power_pair};
+use product_chain::Chain;
+use series_weights::Weights;
+use sil_model::Steps;
+use std::alloc::{AllocError, Global};
+use std::sync::ledger::Ledger;
+use uniformise::Workspace;
+
+/// The matrices of a phase, with the room that they are made in.
+#[derive(Drop)]
+pub struct Matrices {
+    /// Of which phase they are, once they are made.
+    pub kept: Option<KeptPhase>,
+    /// What becomes of the whole at each state by the end.
+    pub end: Dense,
+    /// What is dwelt from each state on, in beats.
+    pub dwell: Dense,
+    /// Room for powers.
+    pub scratch: Vec<Dense>,
+    /// Room for a row.
+    pub row: Vec<u128>,
+}
+
+impl Matrices {
+    /// Matrices of no phase yet.
+    pub fn new(alloc: Global, size: usize) -> Result<Matrices, AllocError>
+        requires some { 1 ≤ size }
+        requires few { size ≤ 64 }
+        ensures sound { IfOk result AreMatrices }
+        ensures size { IfOk result (λ m. vec_len m.row ≡ size) }
+        ensures none { IfOk result (λ m. m.kept ≡ None) }
+    {
+        let end = Dense::new(alloc, size)?;
+        let dwell = Dense::new(alloc, size)?;
+        let mut scratch = Vec::with_capacity(alloc, 4)?;
+        for _ in 0..4u8 {
+            scratch.push(Dense::new(alloc, size)?)?;
+        }
+        let row = vec![in alloc; 0u128; size]?;
+        Ok(Matrices {
+            kept: None,
+            end,
+            dwell,
+            scratch,
+            row,
+        })
+    }
+
+    /// Makes them those of a phase, unless they are these already. `room` is room for a row.
+    #[allow(clippy::too_many_arguments)]
+    pub fn make_ready<L: Ledger>(
+        &mut self,
+        work: &mut Workspace,
+        chain: &Chain,
+        weights: &Weights,
+        beats: u64,
+        hours: u64,
+        room: &mut [u128],
+        steps: &mut Steps<L>,
+    )
+        requires sound { AreMatrices self.old }
+        requires size { vec_len self.old.row ≡ states_of chain.now.of.subsystems }
+        requires same { IsOfNoOther (loop_of self.old.kept) chain.now.of }
+        requires beats { beats ≡ chain.now.beats }
+        requires hours { hours ≡ chain.now.hours }
+        requires work { work.old ≡ states_of chain.now.of.subsystems }
+        requires room { length room.old ≡ states_of chain.now.of.subsystems }
+        ensures sound { AreMatrices self.new }
+        ensures size { vec_len self.new.row ≡ vec_len self.old.row }
+        ensures kept { self.new.kept ≡ Some (record { chain = chain.now; order = weights.now }) }
+        ensures work { work.new ≡ work.old }
+        ensures steps { (digits : ℕ) → beats < 2 ^ digits → steps.new ≤ steps.old + making_products chain.now.of.subsystems weights.now digits }
+    {
+        if !self.are_of(hours, beats, weights.order()) {
+            self.make(work, chain, weights, beats, hours, room, steps);
+        }
+    }
+
+    /// Whether they are of a phase of these hours and beats, by this order.
+    fn are_of(&self, hours: u64, beats: u64, order: u8) -> bool
+        ensures { IsTrue result → IsOfPhase hours beats order self.now.kept }
+    {
+        match &self.kept {
+            Some(kept) => kept.has(hours, beats, order),
+            None => false,
+        }
+    }
+
+    /// Makes them those of a phase.
+    #[allow(clippy::too_many_arguments)]
+    fn make<L: Ledger>(
+        &mut self,
+        work: &mut Workspace,
+        chain: &Chain,
+        weights: &Weights,
+        beats: u64,
+        hours: u64,
+        room: &mut [u128],
+        steps: &mut Steps<L>,
+    )
+        requires sound { AreMatrices self.old }
+        requires size { vec_len self.old.row ≡ states_of chain.now.of.subsystems }
+        requires beats { beats ≡ chain.now.beats }
+        requires hours { hours ≡ chain.now.hours }
+        requires work { work.old ≡ states_of chain.now.of.subsystems }
+        requires room { length room.old ≡ states_of chain.now.of.subsystems }
+        ensures sound { AreMatrices self.new }
+        ensures size { vec_len self.new.row ≡ vec_len self.old.row }
+        ensures kept { self.new.kept ≡ Some (record { chain = chain.now; order = weights.now }) }
+        ensures work { work.new ≡ work.old }
+        ensures steps { (digits : ℕ) → beats < 2 ^ digits → steps.new ≤ steps.old + making_products chain.now.of.subsystems weights.now digits }
+    {
+        prove!(beats == chain.beats());
+        make_beat_pair(
+            &mut self.end,
+            &mut self.dwell,
+            self.row.as_mut_slice(),
+            room,
+            work,
+            chain,
+            weights,
+            steps,
+        );
+        power_pair(
+            &mut self.end,
+            &mut self.dwell,
+            self.scratch.as_mut_slice(),
+            beats,
+            steps,
+        );
+        self.kept = Some(KeptPhase::new(chain, hours, beats, weights));
+    }
+}
+
+/// Makes `v` its product with an end matrix, and `dwelt` that with a dwell sum. `row` is room for it.
+pub fn pass<L: Ledger>(
+    end: &Dense,
+    dwell: &Dense,
+    row: &mut [u128],
+    v: &mut [u128],
+    dwelt: &mut [u128],
+    steps: &mut Steps<L>,
+)
+    requires dwell_size { dwell.now.size ≡ end.now.size }
+    requires row { length row.old ≡ end.now.size }
+    requires v { length v.old ≡ end.now.size }
+    requires dwelt { length dwelt.old ≡ end.now.size }
+    requires mass { IsMass v.old }
+    requires end_small { EachEntryAtMost end.now (2 ^ 68) }
+    requires dwell_small { EachEntryAtMost dwell.now (2 ^ 68) }
+    ensures ends { IsRowProductDown v.old end.now v.new }
+    ensures dwells { IsRowProductDown v.old dwell.now dwelt.new }
+    ensures steps { steps.new ≡ steps.old + 2 * end.now.size ^ 2 }
+{
+    dwell.row_product_down(v, dwelt, steps);
+    end.row_product_down(v, row, steps);
+    v.copy_from_slice(row);
+}
