@@ -144,6 +144,8 @@ impl Sink for MemSink {
 
     ghost faults = { λ s. s.faults };
 
+    ghost room = { λ s. space_of s };
+
     /// Takes as many bytes as the room and the planned stop allow.
     fn write(&mut self, bytes: &[u8]) -> Result<usize, Failed>
         ensures within { IfOk result (λ n. n ≤ length bytes.now) }
@@ -157,6 +159,7 @@ impl Sink for MemSink {
         // To a piece that is not empty, a failure and an answer 0 come exactly there.
         ensures fails { IsErr result ↔ ((0 < length bytes.now) × IsFailing self.old) }
         ensures takes_nothing { 0 < length bytes.now → ((result ≡ Ok 0) ↔ IsStalling self.old) }
+        ensures roomy { 0 < length bytes.now → length bytes.now ≤ space_of self.old → (result ≡ Ok (length bytes.now)) × (self.new.faults ≡ self.old.faults) }
         ensures taken { IfOk result (λ n. n ≡ min (length bytes.now) (space_of self.old)) }
         ensures appended { IfOk result (λ n. self.new.written ≡ self.old.written ++ take n bytes.now) }
         ensures room { IfOk result (λ n. self.new.room + n ≡ self.old.room) }

@@ -194,6 +194,8 @@ impl<R: Print> Sink for OutSink<'_, R> {
 
     ghost faults = { λ s. s.faults };
 
+    ghost room = { λ _. 0 };
+
     /// Writes to the output and flushes it. Whatever keeps the bytes from being written or flushed is a fault.
     fn write(&mut self, bytes: &[u8]) -> Result<usize, Failed> {
         self.offered.push(bytes);

@@ -1,5 +1,5 @@
 //! Writing a text whole.
-ghost use Rattle.std.specs.Prelude.{◌≡◌, ℕ, ◌≤◌, ◌<◌, ◌++◌, ◌∷◌, ◌↔◌, Bool, true, false, List, [], take, length, is_err, IsTrue, IfOk, OnOk, OnErr};
+ghost use Rattle.std.specs.Prelude.{◌≡◌, ℕ, ◌≤◌, ◌<◌, ◌++◌, ◌∷◌, ◌↔◌, Bool, true, false, List, [], take, length, is_err, IsTrue, IsOk, IfOk, OnOk, OnErr};
 ghost use Rattle.sil_io.specs.Faults.{CountsFault};
 ghost use Rattle.sil_io.specs.Bytes.{AppendsPart, OffersWhole};
 
@@ -33,6 +33,9 @@ pub trait Sink {
     // how many writes failed or stalled; it stands still at 2^64 - 1
     ghost faults: { Self → ℕ };
 
+    // the sink tells that it takes a piece of at most so many bytes whole, without a fault; 0 tells nothing
+    ghost room: { Self → ℕ };
+
     /// Writes the first bytes of a piece, and answers how many it took. After `Failed` the bytes written are as
     /// before. An answer 0 to a piece that is not empty is a stall.
     fn write(&mut self, bytes: &[u8]) -> Result<usize, Failed>
@@ -45,7 +48,8 @@ pub trait Sink {
         ensures stalls { IsTrue (stalled self.new) ↔ ((result ≡ Ok 0) × (0 < length bytes.now)) }
         ensures noted { failed self.new ≡ is_err result }
         ensures faults_never_fall { faults self.old ≤ faults self.new }
-        ensures failed { OnErr result (CountsFault (faults self.old) (faults self.new)) };
+        ensures failed { OnErr result (CountsFault (faults self.old) (faults self.new)) }
+        ensures roomy { 0 < length bytes.now → length bytes.now ≤ room self.old → (result ≡ Ok (length bytes.now)) × (faults self.new ≡ faults self.old) };
 
     /// Counts the stall of the last write.
     fn note_stall(&mut self)
@@ -76,6 +80,8 @@ pub fn write_whole<K: Sink>(sink: &mut K, bytes: &[u8]) -> Result<(), Failed>
     ensures noted { 0 < length bytes.now → K.failed sink.new ≡ is_err result }
     ensures faults_never_fall { K.faults sink.old ≤ K.faults sink.new }
     ensures failed { OnErr result (CountsFault (K.faults sink.old) (K.faults sink.new)) }
+    // A sink with room for the bytes takes them, without a fault.
+    ensures roomy { length bytes.now ≤ K.room sink.old → IsOk result × (K.faults sink.new ≡ K.faults sink.old) }
 {
     let mut done = 0;
     while done < bytes.len() {

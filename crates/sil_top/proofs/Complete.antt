@@ -49,13 +49,13 @@ pub one_asked : (words : List (List ℕ)) (a b : Ask) → Asks words a → Asks 
 one_asked words a b is_a is_b = is_a.1 is_a.0.0 is_a.0.1 is_a.0.2 ∙ sym (is_b.1 is_a.0.0 is_a.0.1 is_a.0.2)
 
 -- bytes are the loop file of one loop
-one_loop : (bytes : List ℕ) (l m : LoopValue) → IsLoopOf bytes l → IsLoopOf bytes m → l ≡ m
+pub one_loop : (bytes : List ℕ) (l m : LoopValue) → IsLoopOf bytes l → IsLoopOf bytes m → l ≡ m
 one_loop bytes l m is_l is_m =
     let same : is_l.tree ≡ is_m.tree = let e = sym is_l.toml ∙ is_m.toml in cc in
     is_l.value ∙ ap loop_of same ∙ sym is_m.value
 
 -- and then they have no fault
-sound_bytes : (bytes : List ℕ) (l : LoopValue) (f : FileFault) → IsLoopOf bytes l → HasFault bytes f → ⊥
+pub sound_bytes : (bytes : List ℕ) (l : LoopValue) (f : FileFault) → IsLoopOf bytes l → HasFault bytes f → ⊥
 sound_bytes bytes l f is_l has =
     let none : tree_fault (tree_of bytes) ≡ None = ap tree_fault is_l.toml ∙ is_l.pass in
     let some : Some f ≡ None = sym has.first ∙ none in cc

@@ -2,8 +2,11 @@
 use Rattle.std.specs.Prelude.{◌≡◌, ◌⊎◌, ℕ, ◌-◌, ◌^◌, ◌<◌, ◌≤◌, Bool, true, IsTrue, IsSome, List, length, Option, Some, None}
 use Rattle.sil_model.specs.LoopValue.{LoopValue}
 use Rattle.sil_model.specs.Sizes.{first_limit_of, most_file_bytes}
-use Rattle.loop_file.specs.LoopFile.{IsLoopOf}
+use Rattle.sil_model.specs.declared.answers.LimitFault.{LimitFault}
+use Rattle.file_fault.specs.declared.FileFault.{FileFault}
+use Rattle.loop_file.specs.LoopFile.{IsLoopOf, HasFault}
 use Rattle.sil_io.specs.Bytes.{OffersWhole}
+use Rattle.sil_report.specs.Texts.{too_long_line, file_fault_line_of, limit_fault_line_of}
 use Rattle.sil_words.specs.Language.{Asks}
 use Rattle.sil_words.specs.declared.ask.Ask.{Ask}
 use Rattle.sil_top.specs.Run.{takes_file}
@@ -27,6 +30,54 @@ pub record IsSound (tells : Bool) (file : List ℕ → Option (List ℕ)) (words
   pub asked : Ask
   pub asks : Asks words asked
   pub sound : takes_file asked.verb ≡ true → IsTrue tells × IsSoundFile file asked.name
+
+-- The file under a name is refused by a line.
+module _ (file : List ℕ → Option (List ℕ)) (name line : List ℕ) where
+  -- it is longer than a loop file may be
+  pub record IsLongFile : Type 0 where
+    pub bytes : List ℕ
+    pub is_file : file name ≡ Some bytes
+    pub long : most_file_bytes < length bytes
+    pub says : line ≡ too_long_line
+
+  -- it has a fault
+  pub record IsFaultyFile : Type 0 where
+    pub bytes : List ℕ
+    pub is_file : file name ≡ Some bytes
+    pub short : length bytes ≤ most_file_bytes
+    pub fault : FileFault
+    pub first : HasFault bytes fault
+    pub says : line ≡ file_fault_line_of fault
+
+  -- its loop exceeds a limit
+  pub record IsLargeFile : Type 0 where
+    pub bytes : List ℕ
+    pub is_file : file name ≡ Some bytes
+    pub short : length bytes ≤ most_file_bytes
+    pub value : LoopValue
+    pub is_loop : IsLoopOf bytes value
+    pub fault : LimitFault
+    pub first : first_limit_of value value.order ≡ Some fault
+    pub says : line ≡ limit_fault_line_of fault
+
+  abbrev pub IsRefusedFile : Type 0
+  IsRefusedFile = IsLongFile ⊎ IsFaultyFile ⊎ IsLargeFile
+
+-- the words ask for a file that is told, and it is refused by this line
+pub record IsRefused (tells : Bool) (file : List ℕ → Option (List ℕ)) (words : List (List ℕ)) (line : List ℕ) : Type 0 where
+  pub asked : Ask
+  pub asks : Asks words asked
+  pub of_file : takes_file asked.verb ≡ true
+  pub told : IsTrue tells
+  pub refused : IsRefusedFile file asked.name line
+
+-- the words ask for a file, and the shelf tells that it has none of this name
+pub record IsMissing (tells : Bool) (file : List ℕ → Option (List ℕ)) (words : List (List ℕ)) : Type 0 where
+  pub asked : Ask
+  pub asks : Asks words asked
+  pub of_file : takes_file asked.verb ≡ true
+  pub told : IsTrue tells
+  pub none : file asked.name ≡ None
 
 -- the shelf holds the file that the words ask for, if they ask for one
 abbrev pub IsHeld : (List ℕ → Option (List ℕ)) → List (List ℕ) → Type 0

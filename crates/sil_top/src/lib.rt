@@ -6,12 +6,12 @@ mod figures;
 mod load;
 mod verbs;
 
-ghost use Rattle.std.specs.Prelude.{◌≡◌, ℕ, ◌++◌, ◌∷◌, List, [], ◌⊎◌, true, map, string_bytes, IsTrue};
+ghost use Rattle.std.specs.Prelude.{◌≡◌, ℕ, ◌≤◌, ◌++◌, ◌∷◌, List, [], ◌⊎◌, true, length, map, string_bytes, IsTrue};
 ghost use Rattle.sil_io.specs.Faults.{CountsFault};
 ghost use Rattle.sil_io.specs.Bytes.{AppendsPart};
 ghost use Rattle.sil_words.specs.Language.{Asks, IsInLanguage};
 ghost use Rattle.sil_words.specs.declared.ask.Ask.{Ask};
-ghost use Rattle.sil_top.specs.Complete.{IsHeld, IsOffered, IsOfferedOnce, IsQuiet, IsSound};
+ghost use Rattle.sil_top.specs.Complete.{IsHeld, IsMissing, IsOffered, IsOfferedOnce, IsQuiet, IsRefused, IsSound};
 ghost use Rattle.sil_top.specs.Run.{CallsFor, IsFileAsked, IsStopped};
 
 use crate::answer::Fault;
@@ -116,6 +116,19 @@ pub fn run<S: Shelf, K: Sink>(
         × CallsFor (map (λ w. watcher_value w) watchers.items) S.tells (S.file shelf.old) (S.handed shelf.new) (map string_bytes words.now) (record { status = result; text = text })
         × (K.taken sink.new ≡ K.taken sink.old ++ text)
         × (IsTrue K.tells → K.written sink.new ≡ K.written sink.old ++ text))) }
+    // A told file that is refused gives its line, where the counts do not rise, or want of memory.
+    ensures refuses { (line : List ℕ) → IsRefused S.tells (S.file shelf.old) (map string_bytes words.now) line
+        → IsQuiet (S.faults shelf.old) (S.faults shelf.new) → IsQuiet (K.faults sink.old) (K.faults sink.new)
+        → (result ≡ Status.Memory) ⊎ ((result ≡ Status.FileRefused)
+        × (K.taken sink.new ≡ K.taken sink.old ++ line)
+        × (IsTrue K.tells → K.written sink.new ≡ K.written sink.old ++ line)) }
+    // A file that the shelf tells not to have gives a read fault, or want of memory.
+    ensures missing { IsMissing S.tells (S.file shelf.old) (map string_bytes words.now) → (result ≡ Status.ReadFault) ⊎ (result ≡ Status.Memory) }
+    // Over a sink with room for each text that may be called for, its count stays, and no write fault comes.
+    ensures roomy { ((status : Status) (text : List ℕ)
+        → CallsFor (map (λ w. watcher_value w) watchers.items) S.tells (S.file shelf.old) (S.handed shelf.new) (map string_bytes words.now) (record { status = status; text = text })
+        → length text ≤ K.room sink.old)
+        → (result ≡ Status.WriteFault → ⊥) × (K.faults sink.new ≡ K.faults sink.old) }
 {
     match answer_to(alloc, words, shelf, watchers.as_mut_slice()) {
         Ok(answer) => write_text(sink, &answer.text, answer.status),
@@ -138,6 +151,7 @@ fn write_text<K: Sink>(sink: &mut K, text: &[u8], status: Status) -> Status
     ensures one_of_two { (result ≡ status) ⊎ (result ≡ Status.WriteFault) }
     ensures in_one_piece { IsOfferedOnce (K.offered sink.old) (K.offered sink.new) }
     ensures last_failed { result ≡ Status.WriteFault → (K.failed sink.new ≡ true) × IsOffered (K.offered sink.old) (K.offered sink.new) }
+    ensures roomy { length text.now ≤ K.room sink.old → (result ≡ status) × (K.faults sink.new ≡ K.faults sink.old) }
 {
     match write_whole(sink, text) {
         Ok(()) => status,

@@ -1,4 +1,4 @@
-use Rattle.std.proofs.Common.{◌≡◌, ◌≤◌, ◌<◌, ℕ, List, ◌++◌, take, drop, length, arith, ◌-◌, ◌∙◌, ap}
+use Rattle.std.proofs.Common.{◌≡◌, ◌≤◌, ◌<◌, ℕ, List, ◌++◌, take, drop, length, arith, ◌-◌, ◌∙◌, ap, refl, sym, subst, zero, suc}
 use Rattle.std.proofs.lemmas.Bool.{false_from_ne_true}
 use Rattle.std.proofs.lemmas.List.{length-take, length-drop, take_all}
 use Rattle.sil_io.proofs.Buffers.{sent-more}
@@ -8,6 +8,23 @@ use Rattle.sil_io.proofs.writing.write_whole.Goals as goal
 -- all that is left of a text
 rest_is : (done : ℕ) (text : List ℕ) → take (length text - done) (drop done text) ≡ drop done text
 rest_is done text = take_all (length text - done) (drop done text) (omega (arith, length-drop done text))
+
+rest_size : (done : ℕ) (text : List ℕ) → length (take (length text - done) (drop done text)) ≡ length text - done
+rest_size done text = ap length (rest_is done text) ∙ length-drop done text
+
+-- where there was room for all the bytes, a piece that is offered is the first, and there is room for it
+first_fits : {S : Type 0} (room : S → ℕ) (text piece : List ℕ) (done : ℕ) (initial now : S) → done < length text → length piece ≡ length text - done
+    → (done ≡ 0 → now ≡ initial) → (0 < done → done ≡ length text) → length text ≤ room initial
+    → (done ≡ 0) × (now ≡ initial) × (0 < length piece) × (length piece ≤ room now)
+first_fits room text piece zero initial now below size begun all fits =
+    let same = begun refl in
+    (refl, same, omega (arith, below, size), subst (λ s. length piece ≤ room s) (sym same) (omega (arith, size, fits)))
+first_fits room text piece (suc d) initial now below size begun all fits = let whole = all (omega arith) in absurd (omega (arith, below, whole))
+
+faults_stay : {S : Type 0} (faults : S → ℕ) (done : ℕ) (initial now : S) → (done ≡ 0 → now ≡ initial) → (0 < done → faults now ≡ faults initial)
+    → faults now ≡ faults initial
+faults_stay faults zero initial now begun some = ap faults (begun refl)
+faults_stay faults (suc d) initial now begun some = some (omega arith)
 
 pub loop-done-preserved : goal.loop-done-preserved
 loop-done-preserved g c =
@@ -26,6 +43,14 @@ loop-done-preserved g c =
           (λ none. ap g.K.Sink.offered (c.loop-done.invariant.begun none)) c.loop-done.invariant.offered c.in_ok-count.ensures.offered;
       over = λ some. false_from_ne_true (g.K.Sink.stalled c.write.new.self) (λ stalls. let nothing = (c.in_ok-count.ensures.stalls.0 stalls).0 in c.if-count-eq0.false (cc));
       noted = λ some. c.in_ok-count.ensures.noted;
+      whole = λ some fits.
+          let size = rest_size c.loop-done.done c.args.bytes.now in
+          let first = first_fits g.K.Sink.room c.args.bytes.now _ c.loop-done.done c.args.sink.now _ c.loop-done-test.true size
+          c.loop-done.invariant.begun (λ more. (c.loop-done.invariant.whole more fits).0) fits in
+          let none = first.0 in
+          let took = c.in_ok-count.ensures.roomy first.2 first.3 in
+          let count : c.in_ok-count.count ≡ length (take (length c.args.bytes.now - c.loop-done.done) (drop c.loop-done.done c.args.bytes.now)) = let e = took.0 in cc in
+          (omega (arith, none, count, size), took.1 ∙ ap g.K.Sink.faults first.1);
       faults_never_fall = omega arith;
     }
 
@@ -36,6 +61,28 @@ returns-in_err-count-clause-offered g c = λ some. offers-more c.args.bytes.now 
 pub returns-then-count-eq0-clause-offered : goal.returns-then-count-eq0-clause-offered
 returns-then-count-eq0-clause-offered g c = λ some. offers-more c.args.bytes.now _ c.loop-done.done _ _ _ (rest_is c.loop-done.done c.args.bytes.now)
     (λ none. ap g.K.Sink.offered (c.loop-done.invariant.begun none)) c.loop-done.invariant.offered (c.note_stall.ensures.nothing_offered ∙ c.in_ok-count.ensures.offered)
+
+-- where there is room for all the bytes, no write fails, and none stalls
+pub returns-in_err-count-clause-roomy : goal.returns-in_err-count-clause-roomy
+returns-in_err-count-clause-roomy g c = λ fits.
+    let first = first_fits g.K.Sink.room c.args.bytes.now _ c.loop-done.done c.args.sink.now _ c.loop-done-test.true (rest_size c.loop-done.done c.args.bytes.now)
+    c.loop-done.invariant.begun (λ more. (c.loop-done.invariant.whole more fits).0) fits in
+    let took = (c.in_err-count.ensures.roomy first.2 first.3).0 in
+    let none : ⊥ = cc in absurd none
+
+pub returns-then-count-eq0-clause-roomy : goal.returns-then-count-eq0-clause-roomy
+returns-then-count-eq0-clause-roomy g c = λ fits.
+    let size = rest_size c.loop-done.done c.args.bytes.now in
+    let first = first_fits g.K.Sink.room c.args.bytes.now _ c.loop-done.done c.args.sink.now _ c.loop-done-test.true size
+    c.loop-done.invariant.begun (λ more. (c.loop-done.invariant.whole more fits).0) fits in
+    let took = (c.in_ok-count.ensures.roomy first.2 first.3).0 in
+    let some = first.2 in
+    let count : c.in_ok-count.count ≡ length (take (length c.args.bytes.now - c.loop-done.done) (drop c.loop-done.done c.args.bytes.now)) = cc in
+    let none = c.if-count-eq0.true in absurd (omega (arith, count, none, some))
+
+pub returns-clause-roomy : goal.returns-clause-roomy
+returns-clause-roomy g c = λ fits.
+    (refl, faults_stay g.K.Sink.faults c.loop-done.done c.args.sink.now _ c.loop-done.invariant.begun (λ some. (c.loop-done.invariant.whole some fits).1))
 
 pub returns-clause-untouched : goal.returns-clause-untouched
 returns-clause-untouched g c = λ none. c.loop-done.invariant.begun (let h = c.loop-done.invariant.in_range in omega (arith, none, h))
