@@ -1,5 +1,6 @@
 mod Worked
 mod Phases
+mod Budgets
 mod Edges
 mod Traded
 mod Compared

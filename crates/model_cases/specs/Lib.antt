@@ -1,3 +1,4 @@
 pub mod Cases
+pub mod Budgets
 pub mod Exchange
 pub mod Orders

@@ -3,6 +3,7 @@
 #![tactic(auto)]
 
 ghost use Rattle.model_cases.specs.Cases.{WorkedCases, PhaseCases, BandCases};
+ghost use Rattle.model_cases.specs.Budgets.{BudgetCases};
 ghost use Rattle.model_cases.specs.Exchange.{ExchangeCases};
 ghost use Rattle.model_cases.specs.Orders.{OrderCases};
 
@@ -14,6 +15,11 @@ pub fn worked_cases()
 /// PFDavg and PFH across a test, and the mean and the end of a phase.
 pub fn phase_cases()
     ensures { PhaseCases }
+{}
+
+/// The error budgets of a channel over a year and of one across a test, and how wide their intervals may be.
+pub fn budget_cases()
+    ensures { BudgetCases }
 {}
 
 /// Bands at their edges.
