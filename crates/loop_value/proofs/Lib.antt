@@ -8,3 +8,4 @@ pub mod Printable
 pub mod Figures
 pub mod Starts
 pub mod Told
+pub mod Powered

@@ -1,5 +1,5 @@
 -- What the computation of a loop keeps from phase to phase.
-use Rattle.std.specs.Prelude.{◌≡◌, ℕ, ◌+◌, ◌-◌, ◌*◌, ◌^◌, ◌≤◌, ◌<◌, Bool, List, length, map, slice_index, slice_index_or}
+use Rattle.std.specs.Prelude.{◌≡◌, ℕ, ◌+◌, ◌-◌, ◌*◌, ◌^◌, ◌≤◌, ◌<◌, Bool, List, Option, Some, None, length, map, slice_index, slice_index_or}
 use Rattle.sil_fraction.specs.Fraction.{Fraction, ratio}
 use Rattle.sil_model.specs.Budget.{failure_rate_of, group_tests_in}
 use Rattle.sil_model.specs.Calendar.{beats_of, phases_of, test_hours_of}
@@ -17,8 +17,15 @@ use Rattle.uniformise.specs.Beat.{beat_products}
 use Rattle.mission_laws.specs.Losses.{HasLost}
 use Rattle.mission_laws.specs.UnderWay.{IsUnderWay}
 use Rattle.phase_laws.specs.Arrived.{HasArrived}
+use Rattle.phase_powers.specs.Products.{powered_products}
+use Rattle.phase_powers.specs.Kept.{PowersValue, IsOfNoOther}
 use Rattle.loop_value.specs.declared.mission.Machine.{Machine}
 use Rattle.loop_value.specs.declared.preparing.Prepared.{Prepared}
+
+-- powers of the loop, where it has few enough states
+abbrev pub HavePowers : LoopValue → Option PowersValue → Type 0
+HavePowers l None = 64 < states_of l.subsystems
+HavePowers l (Some p) = (p.size ≡ states_of l.subsystems) × IsOfNoOther p.of l × (states_of l.subsystems ≤ 64)
 
 -- its parts are those of the loop, and the chain is timed for phases of `hours`
 pub record IsOf (l : LoopValue) (m : Machine) : Type 0 where
@@ -28,6 +35,7 @@ pub record IsOf (l : LoopValue) (m : Machine) : Type 0 where
   pub work : m.work ≡ states_of l.subsystems
   pub places : m.places ≡ l
   pub tests : m.tests ≡ l
+  pub powers : HavePowers l m.powers
 
 -- the greatest rate at which a loop may go down
 abbrev pub greatest_of : LoopValue → Fraction
@@ -52,6 +60,10 @@ test_products us = 18 * states_of us + 200
 
 abbrev pub phase_products : LoopValue → ℕ → ℕ → ℕ
 phase_products l order p = beats_of l.subsystems (slice_index_or (phases_of l) p no_phase).hours * beat_products l.subsystems order
+
+abbrev pub powered_phase : LoopValue → ℕ → (ℕ → ℕ) → ℕ → ℕ
+powered_phase l order digits p =
+    powered_products l.subsystems order (digits (beats_of l.subsystems (slice_index_or (phases_of l) p no_phase).hours))
 
 abbrev pub tests_products : LoopValue → ℕ → ℕ
 tests_products l p = group_tests_in l (slice_index (test_hours_of l) p) * test_products l.subsystems

@@ -15,7 +15,7 @@ ghost use Rattle.lumped_laws.specs.StateOfCounts.{state_numbered};
 ghost use Rattle.uniformise.specs.Beat.{beat_products};
 ghost use Rattle.loop_value.specs.Mission.{IsOf, IsPlanOf, HasReached, test_products};
 ghost use Rattle.loop_value.specs.Records.{HasFed, HasFedInPart};
-ghost use Rattle.loop_value.specs.Sizes.{sizes_of, value_products};
+ghost use Rattle.loop_value.specs.Sizes.{sizes_of, value_products, HaveRoom, value_products_by_powers};
 
 use crate::ends::{divide, pfh_interval, sides};
 use crate::measuring::{ValueFault, lay_out};
@@ -63,6 +63,8 @@ pub fn value<L: Ledger>(
     ensures too_many_states { (n : ℕ) → (result ≡ Err (ValueFault.Limit (TooManyStates n))) ↔ (first_limit_of l.now order ≡ Some (TooManyStates n)) }
 
     ensures products { OnOk result (steps.new ≤ steps.old + value_products l.now order) }
+    ensures by_powers { OnOk result (states_of l.now.subsystems ≤ 64 → (digits : ℕ → ℕ) → HaveRoom digits
+        → steps.new ≤ steps.old + value_products_by_powers l.now order digits) }
 
     // one list of records, one of each phase
     ensures told { OnOk result (HasFed l.now order (length (phases_of l.now)) asked (map (λ w. watcher_value w) feed.old) (map (λ w. watcher_value w) feed.new)) }
@@ -115,6 +117,8 @@ fn compute<L: Ledger>(
     ensures beats { IfOk result (λ v. v.beats ≡ all_beats_of l.now) }
     ensures order { IfOk result (λ v. v.order ≡ order) }
     ensures products { OnOk result (steps.new ≤ steps.old + value_products l.now order) }
+    ensures by_powers { OnOk result (states_of l.now.subsystems ≤ 64 → (digits : ℕ → ℕ) → HaveRoom digits
+        → steps.new ≤ steps.old + value_products_by_powers l.now order digits) }
     ensures told { OnOk result (HasFed l.now order (length (phases_of l.now)) asked (map (λ w. watcher_value w) feed.old) (map (λ w. watcher_value w) feed.new)) }
     ensures refused { OnErr result (HasFedInPart l.now order asked (map (λ w. watcher_value w) feed.old) (map (λ w. watcher_value w) feed.new)) }
 {
@@ -182,6 +186,8 @@ fn evaluate<L: Ledger>(
     ensures pfd_width { IfOk result (λ figures. figures.pfd.hi ≤ figures.pfd.lo + pfd_width_of l.now machine.old.weights) }
     ensures pfh_width { IfOk result (λ figures. figures.pfh.hi ≤ figures.pfh.lo + pfh_width_of l.now machine.old.weights) }
     ensures products { OnOk result (steps.new ≤ steps.old + value_products l.now machine.old.weights) }
+    ensures by_powers { OnOk result (states_of l.now.subsystems ≤ 64 → (digits : ℕ → ℕ) → HaveRoom digits
+        → steps.new ≤ steps.old + value_products_by_powers l.now machine.old.weights digits) }
     ensures told { OnOk result (HasFed l.now machine.old.weights (length (phases_of l.now)) asked (map (λ w. watcher_value w) feed.old) (map (λ w. watcher_value w) feed.new)) }
     ensures refused { OnErr result (HasFedInPart l.now machine.old.weights asked (map (λ w. watcher_value w) feed.old) (map (λ w. watcher_value w) feed.new)) }
 {

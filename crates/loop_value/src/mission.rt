@@ -1,6 +1,6 @@
 //! The mission of a loop: one vector pushed forward from phase to phase.
 
-ghost use Rattle.std.specs.Prelude.{◌≡◌, ℕ, suc, ◌+◌, ◌-◌, ◌*◌, ◌^◌, ◌<◌, ◌≤◌, Bool, length, map, slice_index_or, All, IfOk, OnOk, OnErr};
+ghost use Rattle.std.specs.Prelude.{◌≡◌, ℕ, suc, ◌+◌, ◌-◌, ◌*◌, ◌^◌, ◌<◌, ◌≤◌, Bool, length, map, slice_index_or, All, IfOk, OnOk, OnErr, IsTrue, IsFalse};
 ghost use Rattle.sil_model.specs.Budget.{beat_loss_of, group_tests_of};
 ghost use Rattle.sil_model.specs.Calendar.{phases_of, test_hours_of, beats_of};
 ghost use Rattle.sil_model.specs.LoopValue.{IsWithin};
@@ -13,12 +13,15 @@ ghost use Rattle.mission_laws.specs.Missions.{HasCounted};
 ghost use Rattle.mission_laws.specs.UnderWay.{PassesPhase};
 ghost use Rattle.phase_laws.specs.Laws.{PassesBeats};
 ghost use Rattle.uniformise.specs.Beat.{beat_products};
-ghost use Rattle.loop_value.specs.Mission.{IsOf, IsPlanOf, HasReached, greatest_of, phase_products, tests_products, test_products};
+ghost use Rattle.phase_powers.specs.Products.{powered_products};
+ghost use Rattle.loop_value.specs.Mission.{IsOf, IsPlanOf, HasReached, greatest_of, phase_products, powered_phase, tests_products, test_products};
+ghost use Rattle.loop_value.specs.Sizes.{HaveRoom, powered_until};
 ghost use Rattle.loop_value.specs.Records.{HasFed, HasFedInPart, HasFedPhase, HasFedPhaseInPart};
 
 use crate::telling::tell;
 use beat_ladder::Ladder;
 use lumping::Space;
+use phase_powers::{Powers, run_phase_powered};
 use phase_run::{PlaceRoom, run_phase_by_ladder};
 use product_chain::Chain;
 use series_weights::Weights;
@@ -47,6 +50,8 @@ pub struct Machine {
     pub ladder: Ladder,
     /// Room for blocks of beats over the places that hold mass.
     pub places: PlaceRoom,
+    /// The powers of a beat, where there are few states.
+    pub powers: Option<Powers>,
     /// The tests of an hour.
     pub tests: Tests,
 }
@@ -77,7 +82,7 @@ fn retime(m: &mut Machine, l: &Loop, hours: u64, beats: u64)
 }
 
 /// One phase of so many hours: the vector goes to its end, `mean` becomes its mean over the phase, and the dwell grows by
-/// the hours times that mean.
+/// the hours times that mean. It goes by powers where these take fewer products at most.
 fn pass_phase<L: Ledger>(
     m: &mut Machine,
     l: &Loop,
@@ -102,9 +107,82 @@ fn pass_phase<L: Ledger>(
         v.old v.new dwell.old dwell.new }
     ensures beats { PassesBeats l.now.subsystems m.old.weights hours v.old mean.new v.new }
     ensures steps { steps.new ≤ steps.old + beats_of l.now.subsystems hours * beat_products l.now.subsystems m.old.weights }
+    ensures powered { states_of l.now.subsystems ≤ 64 → (digits : ℕ) → beats_of l.now.subsystems hours < 2 ^ digits
+        → steps.new ≤ steps.old + powered_products l.now.subsystems m.old.weights digits }
 {
     let beats = beats_of(l, hours);
+    let digits = u64::from(beats.ilog2()) + 1;
     retime(m, l, hours, beats);
+    if takes_fewer_by_powers(m, l, beats, digits) {
+        pass_by_powers(m, l, hours, beats, v, mean, dwell, steps);
+    } else {
+        pass_by_blocks(m, l, hours, beats, v, mean, dwell, steps);
+    }
+}
+
+/// Whether a phase of beats with so many binary digits takes fewer products at most by powers than by its beats.
+fn takes_fewer_by_powers(m: &Machine, l: &Loop, beats: u64, digits: u64) -> bool
+    requires parts { IsOf l.now m.now }
+    requires few { beats ≤ most_beats }
+    requires digits { digits ≤ 64 }
+    ensures few { IsTrue result → states_of l.now.subsystems ≤ 64 }
+    ensures fewer { IsTrue result → powered_products l.now.subsystems m.now.weights digits ≤ beats * beat_products l.now.subsystems m.now.weights }
+    ensures otherwise { IsFalse result → states_of l.now.subsystems ≤ 64
+        → beats * beat_products l.now.subsystems m.now.weights ≤ powered_products l.now.subsystems m.now.weights digits }
+{
+    let states = m.space.size() as u64;
+    if states > 64 {
+        return false;
+    }
+    let of_beat = products_of_beat(l, states, u64::from(m.weights.order()));
+    let of_powers = states * of_beat
+        + 4 * (states * states * states) * digits
+        + 2 * (states * states);
+    of_powers < beats * of_beat
+}
+
+/// How many products a beat takes at most.
+#[tactic(auto, unfolding(sil_model::specs::Budget::lumped_events_of))]
+fn products_of_beat(l: &Loop, states: u64, order: u64) -> u64
+    requires states { states ≡ states_of l.now.subsystems }
+    requires few { states ≤ 64 }
+    requires order { order ≤ 40 }
+    ensures value { result ≡ beat_products l.now.subsystems order }
+    ensures small { result ≤ 1_000_000 }
+{
+    let events = 4 * l.groups() as u64 + 3 * l.len() as u64;
+    states * (order * (events + 1) + 2 * order + 1)
+}
+
+/// A phase by blocks of beats.
+#[allow(clippy::too_many_arguments)]
+fn pass_by_blocks<L: Ledger>(
+    m: &mut Machine,
+    l: &Loop,
+    hours: u64,
+    beats: u64,
+    v: &mut [u128],
+    mean: &mut [u128],
+    dwell: &mut [u128],
+    steps: &mut Steps<L>,
+)
+    requires parts { IsOf l.now m.old }
+    requires hours { hours ≡ m.old.hours }
+    requires beats { beats ≡ beats_of l.now.subsystems hours }
+    requires v { length v.old ≡ states_of l.now.subsystems }
+    requires mean { length mean.old ≡ states_of l.now.subsystems }
+    requires dwell { length dwell.old ≡ states_of l.now.subsystems }
+    requires mass { IsMass v.old }
+    requires room { All (λ x. x + hours * 2 ^ 48 ≤ 350_400 * 2 ^ 48) dwell.old }
+    ensures parts { IsOf l.now m.new }
+    ensures weights { m.new.weights ≡ m.old.weights }
+    ensures passes { PassesPhase l.now.subsystems m.old.weights hours (beats_of l.now.subsystems hours) v.old v.new dwell.old dwell.new }
+    ensures loses { LosesInPhase (beats_of l.now.subsystems hours * beat_loss_of l.now.subsystems m.old.weights) hours (states_of l.now.subsystems)
+        v.old v.new dwell.old dwell.new }
+    ensures beats { PassesBeats l.now.subsystems m.old.weights hours v.old mean.new v.new }
+    ensures steps { steps.new ≤ steps.old + beats_of l.now.subsystems hours * beat_products l.now.subsystems m.old.weights }
+{
+    let _ = l;
     run_phase_by_ladder(
         &m.ladder,
         &mut m.places,
@@ -118,6 +196,53 @@ fn pass_phase<L: Ledger>(
         dwell,
         steps,
     );
+}
+
+/// A phase by the powers of its beat.
+#[allow(clippy::too_many_arguments)]
+fn pass_by_powers<L: Ledger>(
+    m: &mut Machine,
+    l: &Loop,
+    hours: u64,
+    beats: u64,
+    v: &mut [u128],
+    mean: &mut [u128],
+    dwell: &mut [u128],
+    steps: &mut Steps<L>,
+)
+    requires parts { IsOf l.now m.old }
+    requires hours { hours ≡ m.old.hours }
+    requires beats { beats ≡ beats_of l.now.subsystems hours }
+    requires few { states_of l.now.subsystems ≤ 64 }
+    requires v { length v.old ≡ states_of l.now.subsystems }
+    requires mean { length mean.old ≡ states_of l.now.subsystems }
+    requires dwell { length dwell.old ≡ states_of l.now.subsystems }
+    requires mass { IsMass v.old }
+    requires room { All (λ x. x + hours * 2 ^ 48 ≤ 350_400 * 2 ^ 48) dwell.old }
+    ensures parts { IsOf l.now m.new }
+    ensures weights { m.new.weights ≡ m.old.weights }
+    ensures passes { PassesPhase l.now.subsystems m.old.weights hours (beats_of l.now.subsystems hours) v.old v.new dwell.old dwell.new }
+    ensures loses { LosesInPhase (beats_of l.now.subsystems hours * beat_loss_of l.now.subsystems m.old.weights) hours (states_of l.now.subsystems)
+        v.old v.new dwell.old dwell.new }
+    ensures beats { PassesBeats l.now.subsystems m.old.weights hours v.old mean.new v.new }
+    ensures powered { (digits : ℕ) → beats < 2 ^ digits → steps.new ≤ steps.old + powered_products l.now.subsystems m.old.weights digits }
+{
+    let _ = l;
+    match &mut m.powers {
+        Some(powers) => run_phase_powered(
+            powers,
+            &mut m.work,
+            &m.chain,
+            &m.weights,
+            beats,
+            hours,
+            v,
+            mean,
+            dwell,
+            steps,
+        ),
+        None => unreachable!(),
+    }
 }
 
 /// The phase `p`, which is not the last, and the tests of the hour that ends it. In between, the watchers that are asked for are
@@ -153,6 +278,8 @@ fn pass_to_next<L: Ledger>(
     ensures told { OnOk result (HasFedPhase l.now m.old.weights p asked (map (λ w. watcher_value w) feed.old) (map (λ w. watcher_value w) feed.new)) }
     ensures refused { OnErr result (HasFedPhaseInPart l.now m.old.weights p asked (map (λ w. watcher_value w) feed.old) (map (λ w. watcher_value w) feed.new)) }
     ensures steps { OnOk result (steps.new ≤ steps.old + phase_products l.now m.old.weights p + tests_products l.now p) }
+    ensures powered { OnOk result (states_of l.now.subsystems ≤ 64 → (digits : ℕ → ℕ) → HaveRoom digits
+        → steps.new ≤ steps.old + powered_phase l.now m.old.weights digits p + tests_products l.now p) }
 {
     pass_phase(m, l, plan.hours(p), v, mean, dwell, steps);
     tell(l, plan, p, up, mean, v, feed, asked)?;
@@ -194,6 +321,8 @@ pub fn pass_mission<L: Ledger>(
     ensures told { OnOk result (HasFed l.now m.old.weights (length (phases_of l.now)) asked (map (λ w. watcher_value w) feed.old) (map (λ w. watcher_value w) feed.new)) }
     ensures refused { OnErr result (HasFedInPart l.now m.old.weights asked (map (λ w. watcher_value w) feed.old) (map (λ w. watcher_value w) feed.new)) }
     ensures steps { OnOk result (steps.new ≤ steps.old + all_beats_of l.now * beat_products l.now.subsystems m.old.weights + group_tests_of l.now * test_products l.now.subsystems) }
+    ensures powered { OnOk result (states_of l.now.subsystems ≤ 64 → (digits : ℕ → ℕ) → HaveRoom digits
+        → steps.new ≤ steps.old + powered_until l.now m.old.weights digits (length (phases_of l.now)) + group_tests_of l.now * test_products l.now.subsystems) }
 {
     let last = plan.phases() - 1;
     let mut passages = Passages { least: 0, most: 0 };

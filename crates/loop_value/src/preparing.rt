@@ -2,7 +2,7 @@
 
 ghost use Rattle.std.specs.Prelude.{◌≡◌, ◌≤◌, ◌<◌, ◌^◌, length, replicate, slice_set, IfOk};
 ghost use Rattle.sil_model.specs.Sizes.{all_beats_of, most_beats, states_of, most_states};
-ghost use Rattle.loop_value.specs.Mission.{IsOf, IsPlanOf, IsPrepared};
+ghost use Rattle.loop_value.specs.Mission.{IsOf, IsPlanOf, IsPrepared, HavePowers};
 
 use crate::mission::Machine;
 use beat_ladder::Ladder;
@@ -10,6 +10,7 @@ use common_cause::events;
 use entry_rates::{entry_rates, up_states};
 use interval_fixed::ONE;
 use lumping::{Space, SpaceFault};
+use phase_powers::Powers;
 use phase_run::PlaceRoom;
 use product_chain::Chain;
 use series_weights::Weights;
@@ -24,6 +25,9 @@ const LADDER_PRODUCTS: u64 = 64;
 
 /// Below so many states at all beats, a mission is over as soon as a ladder is made.
 const SMALL_WORK: u64 = 16_384;
+
+/// The most states of a loop whose phases may pass by powers.
+const MOST_STATES_OF_POWERS: usize = 64;
 
 /// All that the computation of a loop needs. Vectors have a number for each count vector, in units of 2^-48.
 #[derive(Drop)]
@@ -120,6 +124,7 @@ fn machine(
     let work = Workspace::new(alloc, space.size())?;
     let ladder = Ladder::new(alloc, beats_of_ladder(l, plan, space.size()))?;
     let places = PlaceRoom::new(alloc, l, &chain, space.size())?;
+    let powers = powers_of(alloc, l, space.size())?;
     let tests = Tests::new(alloc, l, &space)?;
     Ok(Machine {
         space,
@@ -129,8 +134,23 @@ fn machine(
         work,
         ladder,
         places,
+        powers,
         tests,
     })
+}
+
+/// Room for powers, where a loop of so many states has few enough.
+fn powers_of(alloc: Global, l: &Loop, size: usize) -> Result<Option<Powers>, AllocError>
+    requires size { size ≡ states_of l.now.subsystems }
+    requires some { 1 ≤ size }
+    ensures { IfOk result (HavePowers l.now) }
+{
+    let _ = l;
+    if size > MOST_STATES_OF_POWERS {
+        return Ok(None);
+    }
+    let powers = Powers::new(alloc, size)?;
+    Ok(Some(powers))
 }
 
 /// Up to how many beats the blocks of a ladder go. The figures are true with any.

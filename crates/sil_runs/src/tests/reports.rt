@@ -16,6 +16,8 @@ mission = 8760;[[subsystem]];name = 'sif';vote = '1oo2';du = '1.0E-6';repair = 8
 |mission 8760;phases 1;states 10;beats 2191;order 28;|25411829522432|SIL 4|8683653061|SIL 4
 mission = 8760;[[subsystem]];name = 'sif';vote = '1oo1';du = '0';repair = 8\
 |mission 8760;phases 1;states 4;beats 1095;order 28;|0|beyond SIL 4|0|beyond SIL 4
+mission = 250000;[[subsystem]];name = 'sif';vote = '1oo4';du = '0';repair = 1\
+|mission 250000;phases 1;states 35;beats 1000000;order 28;|0|beyond SIL 4|0|beyond SIL 4
 mission = 1;[[subsystem]];name = 'sif';vote = '1oo1';du = '1.0E-6';repair = 8\
 |mission 1;phases 1;states 4;beats 1;order 28;|499999833333|beyond SIL 4|999999500000|SIL 2
 order = 16;mission = 8760;[[subsystem]];name = 'sif';vote = '1oo1';du = '1.0E-6';repair = 8\

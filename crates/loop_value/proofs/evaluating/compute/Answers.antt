@@ -28,3 +28,6 @@ returns-in_err-parts-clause-refused g c = on_error c.from_residual.result (fed_n
 
 pub evaluate-requires-clause-rates_within : goal.evaluate-requires-clause-rates_within
 evaluate-requires-clause-rates_within g c i = rw c.as_slice-2.ensures.value (c.in_ok-parts.ensures.rates_within i)
+
+pub returns-clause-by_powers : goal.returns-clause-by_powers
+returns-clause-by_powers g c = rw c.in_ok-parts.ensures.weights at c.in_ok-figures.ensures.by_powers

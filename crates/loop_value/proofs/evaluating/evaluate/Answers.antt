@@ -5,7 +5,7 @@ use Rattle.sil_model.specs.Calendar.{ceiling}
 use Rattle.test_calendar.proofs.PhasesOfLoop.{length-phases_of, phases_of_few}
 use Rattle.mission_laws.specs.Missions.{AreMeans, pfd_lower, pfd_upper, pfh_lower, pfh_upper}
 use Rattle.loop_value.specs.Ends.{sum_down, sum_up, entries_of}
-use Rattle.loop_value.specs.Sizes.{value_products}
+use Rattle.loop_value.specs.Sizes.{value_products, value_products_by_powers}
 use Rattle.loop_value.proofs.Figures.{mass, pfd_inside, pfd_narrow, pfh_inside, pfh_narrow}
 use Rattle.loop_value.proofs.evaluating.evaluate.Given.{Over}
 use Rattle.loop_value.proofs.evaluating.evaluate.Goals as goal
@@ -98,3 +98,8 @@ returns-clause-pfh_width g c =
 pub returns-clause-products : goal.returns-clause-products
 unfolding value_products
 returns-clause-products g c = omega (arith, c.pfh_interval.ensures.steps, c.in_ok-passages.ensures.steps, (shared g c).as_many, size g c)
+
+pub returns-clause-by_powers : goal.returns-clause-by_powers
+unfolding value_products_by_powers
+returns-clause-by_powers g c = λ few digits room.
+    omega (arith, c.pfh_interval.ensures.steps, c.in_ok-passages.ensures.powered few digits room, (shared g c).as_many, size g c)

@@ -1,10 +1,12 @@
-use Rattle.std.proofs.Common.{◌≡◌, ◌+◌, ◌-◌, ◌*◌, suc, length, List, refl, ap, ◌∙◌, arith}
-use Rattle.sil_model.specs.Calendar.{Phase, phases_of}
+use Rattle.std.proofs.Common.{◌≡◌, ℕ, ◌+◌, ◌-◌, ◌*◌, suc, length, get_or, List, refl, ap, ◌∙◌, arith}
+use Rattle.sil_model.specs.Calendar.{Phase, phases_of, beats_of}
 use Rattle.sil_model.specs.Figures.{no_phase}
 use Rattle.test_calendar.proofs.PhasesOfLoop.{length-phases_of}
-use Rattle.mission_laws.proofs.Losses.{beats-more, group_tests-more}
+use Rattle.mission_laws.proofs.Losses.{beats-more, group_tests-more, group_tests-all}
 use Rattle.uniformise.specs.Beat.{beat_products}
 use Rattle.loop_value.specs.Mission.{HasReached, test_products}
+use Rattle.phase_powers.specs.Products.{powered_products}
+use Rattle.loop_value.proofs.Powered.{powered-more}
 use Rattle.loop_value.proofs.Reached.{hours-at, few_beats, roomy, counted_last, lost_last, products_last}
 use Rattle.sil_watch.proofs.Lists.{on_error}
 use Rattle.loop_value.proofs.Told.{passed, fed_start, fed_next, fed_part}
@@ -19,6 +21,7 @@ loop-p-init g c = record {
   mean = c.requires.mean;
   dwell = c.requires.dwell;
   counted = omega arith;
+  powered = λ few digits room. omega arith;
   fed = fed_start c.args.l.now c.args.m.now.weights c.args.asked _;
 }
 
@@ -42,6 +45,15 @@ loop-p-preserved g c =
         ap (λ n. n * test_products c.args.l.now.subsystems)
             (group_tests-more c.args.l.now c.loop-p.p 0 (omega (arith, phases, c.loop-p-test.true, length-phases_of c.args.l.now))),
       );
+      powered = λ few digits room.
+          omega (
+            arith,
+            (rw c.loop-p.invariant.weights at c.in_ok-passages.ensures.powered) few digits room,
+            c.loop-p.invariant.powered few digits room,
+            powered-more c.args.l.now c.args.m.now.weights digits c.loop-p.p no_phase (omega (arith, phases, c.loop-p-test.true)),
+            ap (λ n. n * test_products c.args.l.now.subsystems)
+                (group_tests-more c.args.l.now c.loop-p.p 0 (omega (arith, phases, c.loop-p-test.true, length-phases_of c.args.l.now))),
+          );
       fed = rw one at (fed_next c.args.l.now c.args.m.now.weights c.args.asked c.loop-p.p _ _ _ c.loop-p.invariant.fed (rw c.loop-p.invariant.weights at c.in_ok-passages.ensures.told));
     }
 
@@ -104,6 +116,24 @@ returns-clause-steps g c =
           (hours-at c.args.plan.now.phases c.args.l.now (c.phases-last.result - 1) c.hours.result (c.hours.ensures.hours no_phase) c.requires.plan.phases)
           (rw last at c.loop-p.invariant.reached) (rw c.loop-p.invariant.weights at c.pass_phase.ensures.passes) (rw c.loop-p.invariant.weights at c.pass_phase.ensures.loses)
           (beat_products c.args.l.now.subsystems c.args.m.now.weights) (test_products c.args.l.now.subsystems),
+    )
+
+pub returns-clause-powered : goal.returns-clause-powered
+returns-clause-powered g c = λ few digits room.
+    let phases : c.phases-last.result ≡ length (phases_of c.args.l.now) = c.phases-last.ensures.phases ∙ ap (λ (ps : List Phase). length ps) c.requires.plan.phases in
+    let last : c.loop-p.p ≡ c.phases-last.result - 1 = omega (arith, c.loop-p-test.false, c.loop-p.auto.p-end) in
+    let p : ℕ = c.phases-last.result - 1 in
+    let all : p + 1 ≡ length (phases_of c.args.l.now) = omega (arith, phases, c.phases-last.ensures.some) in
+    let hours : c.hours.result ≡ (get_or (phases_of c.args.l.now) p no_phase).hours =
+    hours-at c.args.plan.now.phases c.args.l.now p c.hours.result (c.hours.ensures.hours no_phase) c.requires.plan.phases in
+    let beats : ℕ = beats_of c.args.l.now.subsystems c.hours.result in
+    omega (
+      arith,
+      (rw c.loop-p.invariant.weights at c.pass_phase.ensures.powered) few (digits beats) (room beats),
+      (rw last at c.loop-p.invariant.powered) few digits room,
+      rw all at (powered-more c.args.l.now c.args.m.now.weights digits p no_phase (omega arith)),
+      ap (λ h. powered_products c.args.l.now.subsystems c.args.m.now.weights (digits (beats_of c.args.l.now.subsystems h))) hours,
+      ap (λ n. n * test_products c.args.l.now.subsystems) (group_tests-all c.args.l.now p (omega (arith, all, length-phases_of c.args.l.now))),
     )
 
 pub returns-clause-told : goal.returns-clause-told

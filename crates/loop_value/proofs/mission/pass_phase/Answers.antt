@@ -1,24 +1,21 @@
-use Rattle.loop_value.proofs.Reached.{passes, loses, beaten}
+use Rattle.std.proofs.Common.{◌≡◌, ◌+◌, ◌*◌, ◌≤◌, ap, refl, arith}
+use Rattle.sil_model.specs.Calendar.{beats_of}
+use Rattle.uniformise.specs.Beat.{beat_products}
+use Rattle.phase_powers.specs.Products.{powered_products}
+use Rattle.loop_value.proofs.Powered.{powered_room}
 use Rattle.loop_value.proofs.mission.pass_phase.Goals as goal
 
-pub returns-clause-passes : goal.returns-clause-passes
-returns-clause-passes g c =
-    passes c.args.l.now c.retime.new.m.chain c.retime.new.m.hours c.args.m.now.weights c.retime.new.m.weights c.args.hours c.beats_of-beats.result
-    c.args.v.now c.run_phase_by_ladder.new.v c.args.dwell.now c.run_phase_by_ladder.new.dwell_hours
-    c.retime.ensures.parts.chain c.retime.ensures.hours c.retime.ensures.weights c.beats_of-beats.ensures.beats
-    c.run_phase_by_ladder.ensures.ends c.run_phase_by_ladder.ensures.dwells
-
-pub returns-clause-loses : goal.returns-clause-loses
-returns-clause-loses g c =
-    loses c.args.l.now c.retime.new.m.chain c.retime.new.m.hours c.args.m.now.weights c.retime.new.m.weights c.args.hours c.beats_of-beats.result
-    c.args.v.now c.run_phase_by_ladder.new.v c.args.dwell.now c.run_phase_by_ladder.new.dwell_hours
-    c.retime.ensures.parts.chain c.retime.ensures.hours c.retime.ensures.weights c.beats_of-beats.ensures.beats
-    c.run_phase_by_ladder.ensures.kept c.run_phase_by_ladder.ensures.lack c.run_phase_by_ladder.ensures.dwell_kept c.run_phase_by_ladder.ensures.dwell_lack
-
-pub returns-clause-beats : goal.returns-clause-beats
-returns-clause-beats g c =
-    beaten c.args.l.now c.retime.new.m.chain c.retime.new.m.hours c.args.m.now.weights c.retime.new.m.weights c.args.hours c.beats_of-beats.result
-    c.args.v.now c.run_phase_by_ladder.new.v c.args.dwell.now c.run_phase_by_ladder.new.dwell_hours
-    c.retime.ensures.parts.chain c.retime.ensures.hours c.retime.ensures.weights c.beats_of-beats.ensures.beats
-    c.run_phase_by_ladder.new.mean c.run_phase_by_ladder.ensures.means c.run_phase_by_ladder.ensures.ends
-    c.run_phase_by_ladder.ensures.mean_kept c.run_phase_by_ladder.ensures.kept c.run_phase_by_ladder.ensures.mean_lack c.run_phase_by_ladder.ensures.lack
+pub returns-else-takes_fewer_by_powers-clause-powered : goal.returns-else-takes_fewer_by_powers-clause-powered
+returns-else-takes_fewer_by_powers-clause-powered g c = λ few digits room.
+    let beats : c.beats_of-beats.result ≡ beats_of c.args.l.now.subsystems c.args.hours = c.beats_of-beats.ensures.beats in
+    let places : c.from-digits.result ≡ c.ilog2.result = c.from-digits.ensures in
+    let more : c.beats_of-beats.result * beat_products c.args.l.now.subsystems c.args.m.now.weights
+    ≤ powered_products c.args.l.now.subsystems c.args.m.now.weights (c.ilog2.result + 1) =
+    rw (places, c.retime.ensures.weights) at (c.if-takes_fewer_by_powers.ensures.otherwise refl few) in
+    omega (
+      arith,
+      rw c.retime.ensures.weights at c.pass_by_blocks.ensures.steps,
+      more,
+      ap (λ n. n * beat_products c.args.l.now.subsystems c.args.m.now.weights) beats,
+      powered_room c.args.l.now.subsystems c.args.m.now.weights c.beats_of-beats.result c.ilog2.result digits c.ilog2.ensures.power_le (omega (arith, room, beats)),
+    )

@@ -1,4 +1,4 @@
-use Rattle.std.proofs.Common.{◌≡◌, ◌*◌, [], get_or, List, ap, ◌∙◌, arith}
+use Rattle.std.proofs.Common.{◌≡◌, ℕ, ◌*◌, [], get_or, List, ap, ◌∙◌, arith}
 use Rattle.std.specs.Prelude.{map}
 use Rattle.sil_model.specs.Calendar.{phases_of, test_hours_of, beats_of}
 use Rattle.sil_model.specs.Figures.{no_phase}
@@ -7,6 +7,7 @@ use Rattle.test_calendar.specs.declared.groups.GroupTest.{GroupTest}
 use Rattle.test_calendar.specs.GroupTests.{group_tests_at}
 use Rattle.test_matrix.specs.HourTests.{Exist}
 use Rattle.uniformise.specs.Beat.{beat_products}
+use Rattle.phase_powers.specs.Products.{powered_products}
 use Rattle.loop_value.specs.Mission.{test_products}
 use Rattle.loop_value.proofs.Reached.{hours-at, few_beats, roomy, reached_next, exist_tests, counted_tests}
 use Rattle.sil_watch.proofs.Lists.{on_error}
@@ -54,6 +55,21 @@ returns-clause-steps g c =
       c.pass_phase.ensures.steps,
       rw (c.pass_phase.ensures.parts.tests) at c.apply-passed.ensures.steps,
       ap (λ h. beats_of c.args.l.now.subsystems h * beat_products c.args.l.now.subsystems c.args.m.now.weights) hours,
+      ap (λ n. n * test_products c.args.l.now.subsystems) (counted_tests c.args.l.now c.args.p c.requires.more c.tests_after.result.now tests),
+    )
+
+pub returns-clause-powered : goal.returns-clause-powered
+returns-clause-powered g c = λ few digits room.
+    let tests : c.tests_after.result.now ≡ get_or (map (group_tests_at c.args.l.now) (test_hours_of c.args.l.now)) c.args.p [] =
+    c.tests_after.ensures.tests ∙ ap (λ (ts : List (List GroupTest)). get_or ts c.args.p []) c.requires.plan.tests in
+    let hours : c.hours.result ≡ (get_or (phases_of c.args.l.now) c.args.p no_phase).hours =
+    hours-at c.args.plan.now.phases c.args.l.now c.args.p c.hours.result (c.hours.ensures.hours no_phase) c.requires.plan.phases in
+    let beats : ℕ = beats_of c.args.l.now.subsystems c.hours.result in
+    omega (
+      arith,
+      c.pass_phase.ensures.powered few (digits beats) (room beats),
+      rw (c.pass_phase.ensures.parts.tests) at c.apply-passed.ensures.steps,
+      ap (λ h. powered_products c.args.l.now.subsystems c.args.m.now.weights (digits (beats_of c.args.l.now.subsystems h))) hours,
       ap (λ n. n * test_products c.args.l.now.subsystems) (counted_tests c.args.l.now c.args.p c.requires.more c.tests_after.result.now tests),
     )
 
