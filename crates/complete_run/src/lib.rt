@@ -1,0 +1,82 @@
+//! Whole runs over a shelf and a sink in memory, of which no premise is left open.
+//!
+//! The clause `complete` of [`run`] has premises: that the words are in the language, that the file is told, without fault and
+//! within the limits, and that neither count of faults rises. Here the shelf, the sink and the words are made, and each of those
+//! premises is proved: what remains is said of the bytes of the file alone ([`check_file`]), read off them ([`check_sound`]), or
+//! nothing at all ([`check_drawn`]).
+#![tactic(auto)]
+
+ghost use Rattle.std.specs.Prelude.{◌≡◌, codes, List, [], ◌∷◌, map, string_bytes, IfOk, IfSome};
+ghost use Rattle.sil_model.specs.LoopValue.{LoopValue};
+ghost use Rattle.loop_gen.specs.Drawn.{drawn_of};
+ghost use Rattle.complete_run.specs.Whole.{AreSound, IsWhole};
+
+use file_fault::FileFault;
+use loop_file::read_loop;
+use loop_gen::make_loop;
+use loop_print::print_loop;
+use loop_value::{ValueFault, measure};
+use sil_io::{MemShelf, MemSink};
+use sil_model::MOST_FILE_BYTES;
+use sil_top::{Status, run};
+use std::alloc::{AllocError, Global};
+
+#[cfg(test)]
+mod tests;
+
+/// Room for every report.
+const ROOM: usize = 1024;
+
+/// The words of the run.
+fn words_of_check(alloc: Global) -> Result<Vec<String>, AllocError>
+    ensures { IfOk result (λ words. map string_bytes words.items ≡ codes "check" ∷ codes "loop.toml" ∷ []) }
+{
+    let mut words = Vec::new(alloc);
+    words.push(String::from_str(alloc, "check")?)?;
+    words.push(String::from_str(alloc, "loop.toml")?)?;
+    Ok(words)
+}
+
+/// The status of `check loop.toml` over a shelf that holds this file under that name, and the sink that the run wrote to.
+pub fn check_file(alloc: Global, file: &[u8]) -> Result<(Status, MemSink), AllocError>
+    // Of each file without fault, whose loop is within the limits, the whole report is written, or memory was wanting.
+    ensures { IfOk result (λ ended. (l : LoopValue) → AreSound file.now l → IsWhole l ended.0 ended.1.written) }
+{
+    let mut shelf = MemShelf::new(alloc);
+    shelf.put("loop.toml", file)?;
+    let mut sink = MemSink::new(alloc, ROOM)?;
+    let words = words_of_check(alloc)?;
+    let status = run(alloc, &words, &mut shelf, &mut sink, Vec::new(alloc));
+    Ok((status, sink))
+}
+
+/// The same of a file that is read first, and `None` where it is not sound.
+pub fn check_sound(alloc: Global, file: &[u8]) -> Result<Option<(Status, MemSink)>, AllocError>
+    ensures { IfOk result (λ found. IfSome found (λ ended. (l : LoopValue) × AreSound file.now l × IsWhole l ended.0 ended.1.written)) }
+{
+    if file.len() > MOST_FILE_BYTES {
+        return Ok(None);
+    }
+    let l = match read_loop(alloc, file) {
+        Ok(l) => l,
+        Err(FileFault::Memory(e)) => return Err(e),
+        Err(_) => return Ok(None),
+    };
+    match measure(alloc, &l, l.order()) {
+        Ok(_) => Ok(Some(check_file(alloc, file)?)),
+        Err(ValueFault::Memory(e)) => Err(e),
+        Err(ValueFault::Limit(_)) => Ok(None),
+    }
+}
+
+/// The same of the loop file that is printed of the loop of a number, and `None` where that is longer than a loop file may be.
+pub fn check_drawn(alloc: Global, number: u64) -> Result<Option<(Status, MemSink)>, AllocError>
+    ensures { IfOk result (λ found. IfSome found (λ ended. IsWhole (drawn_of number) ended.0 ended.1.written)) }
+{
+    let l = make_loop(alloc, number)?;
+    let file = print_loop(alloc, &l)?;
+    if file.len() > MOST_FILE_BYTES {
+        return Ok(None);
+    }
+    Ok(Some(check_file(alloc, &file)?))
+}
