@@ -212,7 +212,8 @@ def loop_of(data):
     for number, table in enumerate(type_tables):
         path = f"type[{number}]."
         _unknown(table, ("name",) + FIGURES, path)
-        types[_name(table, path, types)] = _figures(table, path)
+        name = _name(table, path, types)
+        types[name] = _figures(table, path)
     subsystems = {}
     for number, table in enumerate(subsystem_tables):
         subsystem = _subsystem(table, f"subsystem[{number}].", subsystems, types)
