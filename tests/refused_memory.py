@@ -27,7 +27,7 @@ from pathlib import Path
 
 TOP = Path(__file__).resolve().parent.parent
 LOOP = TOP / "examples" / "one-channel.toml"
-COMMANDS = (("check", "loop.toml"), ("size", "loop.toml"), ("gen", "7"))
+COMMANDS = (("check", "loop.toml", "--series"), ("check", "loop.toml"), ("size", "loop.toml"), ("gen", "7"))
 MEMORY, SHELF = 6, 4
 NOT_MADE = 100
 
@@ -36,12 +36,25 @@ MAIN = '''//! One run over a shelf and a sink in memory, on the words given.
 
 use sil_io::{MemShelf, MemSink};
 use sil_top::run;
+use sil_watch::{Series, Watcher};
+use std::alloc::{AllocError, Global};
 use std::process::ExitCode;
 
 const FILE: &[u8] = b"FILE-TEXT";
 
 /// The exit status where memory is wanting before the run.
 const NOT_MADE: u8 = 100;
+
+/// The status of a run, and how many bytes the sink holds.
+fn one_run(alloc: Global, words: &[String]) -> Result<(u8, usize), AllocError> {
+    let mut shelf = MemShelf::new(alloc);
+    shelf.put("loop.toml", FILE)?;
+    let mut sink = MemSink::new(alloc, 65536)?;
+    let mut watchers: Vec<Box<dyn Watcher>> = Vec::new(alloc);
+    watchers.push(Box::new(alloc, Series::new(alloc))?)?;
+    let status = run(alloc, words, &mut shelf, &mut sink, watchers) as u8;
+    Ok((status, sink.bytes().len()))
+}
 
 fn main(rt: HostRuntime) -> ExitCode {
     let Ok(all) = std::env::args(&rt) else {
@@ -53,15 +66,9 @@ fn main(rt: HostRuntime) -> ExitCode {
             return ExitCode::from(NOT_MADE);
         }
     }
-    let mut shelf = MemShelf::new(rt.alloc());
-    let Ok(mut sink) = MemSink::new(rt.alloc(), 65536) else {
+    let Ok((status, written)) = one_run(rt.alloc(), &words) else {
         return ExitCode::from(NOT_MADE);
     };
-    if shelf.put("loop.toml", FILE).is_err() {
-        return ExitCode::from(NOT_MADE);
-    }
-    let status = run(rt.alloc(), &words, &mut shelf, &mut sink) as u8;
-    let written = sink.bytes().len();
     if println!(rt; "status {status}, {written} bytes").is_err() {
         return ExitCode::from(NOT_MADE);
     }
@@ -134,7 +141,7 @@ def subject(folder):
     for name in ("crates.txt", "HANDLES"):
         shutil.copy(TOP / name, copy / name)
     with open(copy / "crates.txt", "a") as lines:
-        lines.write("refused_memory: sil_io sil_top\n")
+        lines.write("refused_memory: sil_io sil_watch sil_top\n")
     source = copy / "crates" / "refused_memory" / "src" / "main.rt"
     source.parent.mkdir(parents=True)
     text = LOOP.read_text().replace("\\", "\\\\").replace('"', '\\"').replace("\n", "\\n")
