@@ -31,6 +31,19 @@ fn words_of(alloc: Global, line: &str) -> Result<Vec<String>, AllocError> {
     Ok(words)
 }
 
+/// The status of a run over this shelf with a series, into this sink.
+fn run_into(
+    alloc: Global,
+    line: &str,
+    shelf: &mut MemShelf,
+    sink: &mut MemSink,
+) -> Result<Status, AllocError> {
+    let words = words_of(alloc, line)?;
+    let mut watchers: Vec<Box<dyn Watcher>> = Vec::new(alloc);
+    watchers.push(Box::new(alloc, Series::new(alloc))?)?;
+    Ok(run(alloc, &words, shelf, sink, watchers))
+}
+
 /// The status and the text of a run over this shelf with a series, into a sink that fails after so many bytes.
 fn ran_over(
     alloc: Global,
@@ -40,10 +53,7 @@ fn ran_over(
 ) -> Result<(Status, String), Fail> {
     let mut sink = MemSink::new(alloc, ROOM)?;
     sink.fail_after(fail_after);
-    let words = words_of(alloc, line)?;
-    let mut watchers: Vec<Box<dyn Watcher>> = Vec::new(alloc);
-    watchers.push(Box::new(alloc, Series::new(alloc))?)?;
-    let status = run(alloc, &words, shelf, &mut sink, watchers);
+    let status = run_into(alloc, line, shelf, &mut sink)?;
     let text = std::str::from_utf8(sink.bytes()).map_err(|_| "no text")?;
     Ok((status, String::from_str(alloc, text)?))
 }
@@ -53,6 +63,36 @@ fn ran(alloc: Global, line: &str, file: &[u8]) -> Result<(Status, String), Fail>
     let mut shelf = MemShelf::new(alloc);
     shelf.put("loop.toml", file)?;
     ran_over(alloc, line, &mut shelf, ROOM)
+}
+
+/// Whether a run over this file ends with this status and this text.
+fn answers(
+    alloc: Global,
+    line: &str,
+    file: &[u8],
+    status: Status,
+    told: &str,
+) -> Result<bool, Fail> {
+    let (found, text) = ran(alloc, line, file)?;
+    Ok(found == status && text.as_str() == told)
+}
+
+/// The same over a shelf, into a sink that fails after so many bytes.
+fn answers_over(
+    alloc: Global,
+    line: &str,
+    shelf: &mut MemShelf,
+    fail_after: usize,
+    status: Status,
+    told: &str,
+) -> Result<bool, Fail> {
+    let (found, text) = ran_over(alloc, line, shelf, fail_after)?;
+    Ok(found == status && text.as_str() == told)
+}
+
+/// The first column of a row, and the others, with a bar between two of them.
+fn cut(row: &str) -> Result<(&str, &str), Fail> {
+    Ok(row.split_once('|').ok_or("too few columns")?)
 }
 
 /// A text whose lines end with `;` here.

@@ -1,8 +1,9 @@
 //! Files that are refused.
 
-use super::{ONE_CHANNEL, changed, lines_of, ran};
+use super::{ONE_CHANNEL, answers, changed, cut, lines_of};
 use sil_model::MOST_FILE_BYTES;
 use sil_top::Status;
+use std::alloc::Global;
 use std::test::Fail;
 
 /// A line of each refused file: what is replaced in the file of one channel, by what, what stands at its end, and the
@@ -38,78 +39,88 @@ name = 'sif'|name = ""||text subsystem[0].name not a name
 ||test = { every = 0 }|out of range subsystem[0].test.every
 repair = 8|repair = 8761||out of range subsystem[0].repair"#;
 
+/// Whether both verbs refuse the file of this row by its line.
+fn is_refused(alloc: Global, row: &str) -> Result<bool, Fail> {
+    let (part, rest) = cut(row)?;
+    let (by, rest) = cut(rest)?;
+    let (more, fault) = cut(rest)?;
+    let part = lines_of(alloc, part)?;
+    let file = lines_of(alloc, changed(alloc, part.as_str(), by, more)?.as_str())?;
+    let line = format!(in alloc; "refused: {fault}\n")?;
+    Ok(
+        is_refused_by(
+            alloc,
+            "check loop.toml --need 4",
+            file.as_bytes(),
+            line.as_str(),
+        )? && is_refused_by(alloc, "size loop.toml", file.as_bytes(), line.as_str())?,
+    )
+}
+
+/// Whether this line of words refuses this file by this text.
+fn is_refused_by(alloc: Global, words: &str, file: &[u8], line: &str) -> Result<bool, Fail> {
+    answers(alloc, words, file, Status::FileRefused, line)
+}
+
 /// Both verbs print the same line of a refused file.
 #[test]
 fn refused_files(rt: HostRuntime) -> Result<(), Fail> {
-    let alloc = rt.alloc();
     for row in REFUSED.lines() {
-        let (part, rest) = row.split_once('|').ok_or("no part")?;
-        let (by, rest) = rest.split_once('|').ok_or("no change")?;
-        let (more, fault) = rest.split_once('|').ok_or("no fault")?;
-        let part = lines_of(alloc, part)?;
-        let file = lines_of(alloc, changed(alloc, part.as_str(), by, more)?.as_str())?;
-        let line = format!(in alloc; "refused: {fault}\n")?;
-        for words in ["check loop.toml --need 4", "size loop.toml"] {
-            let (status, text) = ran(alloc, words, file.as_bytes())?;
-            assert_eq!(rt;
-                (status, text.as_str()),
-                (Status::FileRefused, line.as_str())
-            );
-        }
+        assert!(rt; is_refused(rt.alloc(), row)?, "{row}");
     }
     Ok(())
+}
+
+/// The keys that are missing where the file of one channel is cut off before each of its lines.
+const MISSING: &str =
+    "version|mission|subsystem|subsystem[0].name|subsystem[0].vote|subsystem[0].du|subsystem[0].repair";
+
+/// Whether a file is refused since this key is missing.
+fn is_missing(alloc: Global, file: &[u8], key: &str) -> Result<bool, Fail> {
+    let line = format!(in alloc; "refused: missing {key}\n")?;
+    is_refused_by(alloc, "check loop.toml", file, line.as_str())
 }
 
 /// The file of one channel cut off after each of its lines but the last.
 #[test]
 fn truncated_files(rt: HostRuntime) -> Result<(), Fail> {
-    let alloc = rt.alloc();
-    let missing =
-        "version|mission|subsystem|subsystem[0].name|subsystem[0].vote|subsystem[0].du|subsystem[0].repair";
-    let mut file = String::new(alloc);
-    for (key, line) in missing.split('|').zip(ONE_CHANNEL.lines()) {
-        let (status, text) = ran(alloc, "check loop.toml", file.as_bytes())?;
-        let told = format!(in alloc; "refused: missing {key}\n")?;
-        assert_eq!(rt;
-            (status, text.as_str()),
-            (Status::FileRefused, told.as_str())
+    let mut read = 0;
+    for (key, line) in MISSING.split('|').zip(ONE_CHANNEL.lines()) {
+        assert!(rt;
+            is_missing(rt.alloc(), &ONE_CHANNEL.as_bytes()[..read], key)?,
+            "{key}"
         );
-        file.push_str(line)?;
-        file.push('\n')?;
+        read += line.len() + 1;
     }
-    let (status, _) = ran(alloc, "check loop.toml", file.as_bytes())?;
-    assert_eq!(rt; status, Status::Done);
+    assert_eq!(rt; read, ONE_CHANNEL.len());
     Ok(())
 }
 
 /// A byte that no text has is no TOML, wherever it stands.
 #[test]
 fn byte_of_no_text(rt: HostRuntime) -> Result<(), Fail> {
-    let alloc = rt.alloc();
-    let mut file: Vec<u8> = Vec::new(alloc);
-    file.extend_from_slice(ONE_CHANNEL.as_bytes())?;
+    let mut file: Vec<u8> = Vec::from_slice(rt.alloc(), ONE_CHANNEL.as_bytes())?;
     file.extend_from_slice(b"# \xff\n")?;
-    let (status, text) = ran(alloc, "check loop.toml", &file)?;
-    assert_eq!(rt;
-        (status, text.as_str()),
-        (Status::FileRefused, "refused: not TOML\n")
-    );
+    assert!(rt; is_refused_by(rt.alloc(), "check loop.toml", &file, "refused: not TOML\n")?);
     Ok(())
+}
+
+/// The file of one channel, made so long by a comment.
+fn lengthened(alloc: Global, size: usize) -> Result<Vec<u8>, Fail> {
+    let mut file: Vec<u8> = Vec::from_slice(alloc, ONE_CHANNEL.as_bytes())?;
+    file.resize(size, b'#')?;
+    Ok(file)
 }
 
 /// A file as long as a loop file may be, and one byte longer.
 #[test]
 fn longest_file(rt: HostRuntime) -> Result<(), Fail> {
     let alloc = rt.alloc();
-    let mut file: Vec<u8> = Vec::new(alloc);
-    file.extend_from_slice(ONE_CHANNEL.as_bytes())?;
-    file.resize(MOST_FILE_BYTES, b'#')?;
-    let (status, text) = ran(alloc, "size loop.toml", &file)?;
+    let file = lengthened(alloc, MOST_FILE_BYTES)?;
     let told = "mission 8760\nphases 1\nstates 4\nbeats 1096\norder 28\nwork 122752\n";
-    assert_eq!(rt; (status, text.as_str()), (Status::Done, told));
-    file.push(b'#')?;
-    let (status, text) = ran(alloc, "size loop.toml", &file)?;
+    assert!(rt; answers(alloc, "size loop.toml", &file, Status::Done, told)?);
+    let file = lengthened(alloc, MOST_FILE_BYTES + 1)?;
     let told = "refused: file longer than 65536 bytes\n";
-    assert_eq!(rt; (status, text.as_str()), (Status::FileRefused, told));
+    assert!(rt; is_refused_by(alloc, "size loop.toml", &file, told)?);
     Ok(())
 }

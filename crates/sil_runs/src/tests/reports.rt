@@ -1,7 +1,8 @@
 //! Reports against figures from outside.
 
-use super::{lines_of, ran};
+use super::{cut, lines_of, ran};
 use sil_top::Status;
+use std::alloc::Global;
 use std::test::Fail;
 
 /// Loop files after their first line `version = 1`, and what their reports tell: the counts, PFDavg with its band and PFH with
@@ -84,33 +85,31 @@ pub(crate) fn holds(line: &str, figure: &str, band: &str) -> Result<bool, Fail> 
     Ok(units(lo) <= figure && figure <= units(hi) && told == band)
 }
 
+/// Whether the report of the file of this row tells what the row says.
+fn is_reported(alloc: Global, row: &str) -> Result<bool, Fail> {
+    let (file, told) = cut(row)?;
+    let mut whole = String::from_str(alloc, "version = 1\n")?;
+    whole.push_str(lines_of(alloc, file)?.as_str())?;
+    let (status, text) = ran(alloc, "check loop.toml", whole.as_bytes())?;
+    Ok(status == Status::Done && tells(alloc, text.as_str(), told)?)
+}
+
+/// Whether a report has seven lines, and these counts and figures.
+fn tells(alloc: Global, text: &str, told: &str) -> Result<bool, Fail> {
+    let (counts, rest) = cut(told)?;
+    let (pfd, rest) = cut(rest)?;
+    let (pfd_band, rest) = cut(rest)?;
+    let (pfh, pfh_band) = cut(rest)?;
+    let has_counts = text.starts_with(lines_of(alloc, counts)?.as_str());
+    let has_pfd = holds(between(text, "pfd ", "\n")?, pfd, pfd_band)?;
+    let has_pfh = holds(between(text, "pfh ", "\n")?, pfh, pfh_band)?;
+    Ok(has_counts && has_pfd && has_pfh && text.lines().count() == 7)
+}
+
 #[test]
 fn reports_hold_the_figures(rt: HostRuntime) -> Result<(), Fail> {
-    let alloc = rt.alloc();
     for row in REPORTS.lines() {
-        let (file, rest) = row.split_once('|').ok_or("no file")?;
-        let (counts, rest) = rest.split_once('|').ok_or("no counts")?;
-        let (pfd, rest) = rest.split_once('|').ok_or("no PFDavg")?;
-        let (pfd_band, rest) = rest.split_once('|').ok_or("no band")?;
-        let (pfh, pfh_band) = rest.split_once('|').ok_or("no PFH")?;
-        let mut whole = String::from_str(alloc, "version = 1\n")?;
-        whole.push_str(lines_of(alloc, file)?.as_str())?;
-        let (status, text) = ran(alloc, "check loop.toml", whole.as_bytes())?;
-        let text = text.as_str();
-        assert_eq!(rt; status, Status::Done, "{text}");
-        assert!(rt;
-            text.starts_with(lines_of(alloc, counts)?.as_str()),
-            "{text}"
-        );
-        assert!(rt;
-            holds(between(text, "pfd ", "\n")?, pfd, pfd_band)?,
-            "{text}"
-        );
-        assert!(rt;
-            holds(between(text, "pfh ", "\n")?, pfh, pfh_band)?,
-            "{text}"
-        );
-        assert_eq!(rt; text.lines().count(), 7);
+        assert!(rt; is_reported(rt.alloc(), row)?, "{row}");
     }
     Ok(())
 }

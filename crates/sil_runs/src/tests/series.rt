@@ -3,6 +3,7 @@
 use super::{ROOM, changed, ran, words_of};
 use sil_io::{MemShelf, MemSink};
 use sil_top::{Status, run};
+use std::alloc::{AllocError, Global};
 use std::test::Fail;
 
 /// How the lines of three years begin.
@@ -12,35 +13,57 @@ const STARTS: [&str; 3] = [
     "phase 3 start 17520 hours 8760 mean 0.00",
 ];
 
-/// A report of three phases, and behind it a line of each; with no watcher, or where none is asked for, the report alone.
-#[test]
-fn lines_of_phases(rt: HostRuntime) -> Result<(), Fail> {
-    let alloc = rt.alloc();
-    let file = changed(
+/// Whether each line begins as its phase does.
+fn are_phases(lines: &str) -> bool {
+    let mut as_told = lines.lines().count() == STARTS.len();
+    for (line, start) in lines.lines().zip(STARTS) {
+        as_told = as_told && line.starts_with(start);
+    }
+    as_told
+}
+
+/// Three years with a test a year.
+fn three_years(alloc: Global) -> Result<String, AllocError> {
+    changed(
         alloc,
         "mission = 8760",
         "mission = 26280",
         "test = { every = 8760 }\n",
-    )?;
-    let (_, report) = ran(alloc, "check loop.toml", file.as_bytes())?;
-    assert_eq!(rt; report.as_str().lines().count(), 7);
-    let (status, text) = ran(alloc, "check loop.toml --series", file.as_bytes())?;
+    )
+}
+
+/// A report of three phases, and behind it a line of each.
+#[test]
+fn lines_of_phases(rt: HostRuntime) -> Result<(), Fail> {
+    let file = three_years(rt.alloc())?;
+    let (_, report) = ran(rt.alloc(), "check loop.toml", file.as_bytes())?;
+    let (status, text) = ran(rt.alloc(), "check loop.toml --series", file.as_bytes())?;
     assert_eq!(rt; status, Status::Done);
+    assert_eq!(rt; report.as_str().lines().count(), 7);
     let lines = text
         .as_str()
         .strip_prefix(report.as_str())
         .ok_or("no report")?;
-    assert_eq!(rt; lines.lines().count(), 3);
-    for (line, start) in lines.lines().zip(STARTS) {
-        assert!(rt; line.starts_with(start), "{line}");
-    }
+    assert!(rt; are_phases(lines), "{lines}");
+    Ok(())
+}
 
-    let mut shelf = MemShelf::new(alloc);
+/// With no watcher a series that is asked for has no lines.
+#[test]
+fn no_watcher(rt: HostRuntime) -> Result<(), Fail> {
+    let file = three_years(rt.alloc())?;
+    let (_, report) = ran(rt.alloc(), "check loop.toml", file.as_bytes())?;
+    let mut shelf = MemShelf::new(rt.alloc());
     shelf.put("loop.toml", file.as_bytes())?;
-    let mut sink = MemSink::new(alloc, ROOM)?;
-    let words = words_of(alloc, "check loop.toml --series")?;
-    let status = run(alloc, &words, &mut shelf, &mut sink, Vec::new(alloc));
-    assert_eq!(rt; status, Status::Done);
+    let mut sink = MemSink::new(rt.alloc(), ROOM)?;
+    let words = words_of(rt.alloc(), "check loop.toml --series")?;
+    let _ = run(
+        rt.alloc(),
+        &words,
+        &mut shelf,
+        &mut sink,
+        Vec::new(rt.alloc()),
+    );
     assert_eq!(rt; sink.bytes(), report.as_bytes());
     Ok(())
 }

@@ -1,6 +1,8 @@
 //! The sizes of loops, and the limits.
 
-use super::{changed, lines_of, ran};
+use super::{answers, changed, cut, lines_of};
+use sil_top::Status;
+use std::alloc::Global;
 use std::test::Fail;
 
 /// What is changed in the file of one channel, what stands at its end, and the exit status and the text of `size`. `;` stands
@@ -37,21 +39,34 @@ const SIZES: &str = "\
 |test = { every = 8760, stagger = 4380 }|0|mission 26280;phases 5;states 1280;beats 6575;order 28;work 235648000;
 ";
 
+/// Whether `size` of the file of this row ends as the row says.
+fn has_sizes(alloc: Global, row: &str) -> Result<bool, Fail> {
+    let (part, rest) = cut(row)?;
+    let (by, rest) = cut(rest)?;
+    let (more, rest) = cut(rest)?;
+    let (number, told) = cut(rest)?;
+    let (part, by) = (lines_of(alloc, part)?, lines_of(alloc, by)?);
+    let more = lines_of(alloc, more)?;
+    let file = changed(alloc, part.as_str(), by.as_str(), more.as_str())?;
+    let status = if number == "0" {
+        Status::Done
+    } else {
+        Status::FileRefused
+    };
+    let told = lines_of(alloc, told)?;
+    answers(
+        alloc,
+        "size loop.toml",
+        file.as_bytes(),
+        status,
+        told.as_str(),
+    )
+}
+
 #[test]
 fn sizes_and_limits(rt: HostRuntime) -> Result<(), Fail> {
-    let alloc = rt.alloc();
     for row in SIZES.lines() {
-        let (part, rest) = row.split_once('|').ok_or("no part")?;
-        let (by, rest) = rest.split_once('|').ok_or("no change")?;
-        let (more, rest) = rest.split_once('|').ok_or("no end")?;
-        let (number, told) = rest.split_once('|').ok_or("no status")?;
-        let (part, by) = (lines_of(alloc, part)?, lines_of(alloc, by)?);
-        let more = lines_of(alloc, more)?;
-        let file = changed(alloc, part.as_str(), by.as_str(), more.as_str())?;
-        let (status, text) = ran(alloc, "size loop.toml", file.as_bytes())?;
-        let number_told = format!(in alloc; "{}", status as u8)?;
-        assert_eq!(rt; number_told.as_str(), number, "{row}");
-        assert_eq!(rt; text.as_str(), lines_of(alloc, told)?.as_str(), "{row}");
+        assert!(rt; has_sizes(rt.alloc(), row)?, "{row}");
     }
     Ok(())
 }
