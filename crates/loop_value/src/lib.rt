@@ -7,7 +7,7 @@ mod measuring;
 mod mission;
 mod preparing;
 #[cfg(test)]
-mod record_tests;
+mod restart_tests;
 mod telling;
 #[cfg(test)]
 mod tests;

@@ -1,6 +1,6 @@
 //! Loops that are drawn from numbers.
 
-use super::reports::{between, holds};
+use super::figures::{between, holds};
 use super::{ROOM, ran, ran_over};
 use sil_io::MemShelf;
 use sil_top::Status;

@@ -2,10 +2,10 @@
 
 mod drawn;
 mod faults;
+mod figures;
 mod files;
 mod lines;
 mod refusals;
-mod reports;
 mod series;
 mod sizes;
 
