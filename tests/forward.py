@@ -20,6 +20,8 @@ ONE = 1 << 48
 LAST_RUNG, MOST_MISSING = 12, 200
 # Below so many states at all beats no block is made, and none of more beats than one for each so many of them.
 SMALL_WORK, BLOCK_WORK = 16_384, 64
+# A loop of at most so many states may pass its phases by powers of the beat.
+POWERS_STATES = 64
 WORK, HIDDEN, DEEP, REPAIR = range(4)
 PFD_BANDS = ((10**17, "no SIL"), (10**16, "SIL 1"), (10**15, "SIL 2"), (10**14, "SIL 3"), (10**13, "SIL 4"))
 PFH_BANDS = tuple((lower // 10**4, name) for lower, name in PFD_BANDS)
@@ -46,6 +48,18 @@ def series_weights(order):
     while not ends[-1]:
         ends.pop()
     return ends, means[:len(ends) - 1], missing
+
+
+def times(row, columns):
+    """A row times a matrix of these columns, rounded down."""
+    return [sum(map(mul, row, column)) >> 48 for column in columns]
+
+
+def followed(first, second):
+    """The columns of the matrices of the beats of a first pair, followed by those of a second one."""
+    rows = list(zip(*first[0]))
+    end, dwell = ([[sum(map(mul, row, column)) >> 48 for row in rows] for column in matrix] for matrix in second)
+    return end, [[a + b for a, b in zip(*columns)] for columns in zip(first[1], dwell)]
 
 
 class Ladder:
@@ -113,6 +127,16 @@ class Lumped:
     def beats_of(self, hours):
         return max(1, upward(hours * self.rate, 10**12))
 
+    def passes_by_powers(self, beats):
+        """Whether a phase takes fewer products, at most, by the powers of its beat than beat by beat."""
+        states, order, events = self.state_count, self.loop.order, self.event_count()
+        of_beat = states * (order * (events + 1) + 2 * order + 1)
+        of_powers = states * of_beat + 4 * states**3 * beats.bit_length() + 2 * states**2
+        return states <= POWERS_STATES and of_powers < beats * of_beat
+
+    def event_count(self):
+        return 4 * len(self.groups) + 3 * len(self.loop.subsystems)
+
     def check_limits(self):
         tests = sum(len(range(s.test.first + i * s.test.stagger, self.loop.mission, s.test.every))
                     for s in self.loop.subsystems if s.test for i in range(s.channels))
@@ -175,7 +199,7 @@ class Mission:
         self.loop = loop
         self.lumped = lumped = Lumped(loop)
         self.ends, self.means, self.missing = series_weights(loop.order)
-        self.ladder = Ladder(lumped)
+        self.ladder, self.kept = Ladder(lumped), {}
         self.reach()
         self.up = [lumped.is_up(state) for state in self.states]
         self.entry = [sum(steps for target, steps, _ in events if not self.up[self.numbers[target]]) if up else 0
@@ -214,6 +238,29 @@ class Mission:
         return [(itemgetter(*sources, 0), weights + [0]) for sources, weights in columns]
 
     def run_phase(self, vector, hours, beats):
+        if self.lumped.passes_by_powers(beats):
+            end, dwell = self.powers(hours, beats)
+            vector, total = times(vector, end), times(vector, dwell)
+        else:
+            vector, total = self.pass_blocks(vector, hours, beats)
+        return vector, [hours * (x // beats) + hours * (x % beats) // beats for x in total]
+
+    def powers(self, hours, beats):
+        """The columns of the matrix of so many beats and of that of the dwell in them, by the binary digits of the beats."""
+        if (hours, beats) in self.kept:
+            return self.kept[hours, beats]
+        chain, size = self.chain(hours, beats), len(self.states)
+        rows = [self.pass_block(chain, [ONE if j == i else 0 for j in range(size)], 0, self.ends, self.means)
+                for i in range(size)]
+        one = [list(map(list, zip(*matrix))) for matrix in zip(*rows)]
+        pair = one
+        for digit in bin(beats)[3:]:
+            for second in (pair, one)[:1 + int(digit)]:
+                pair = followed(pair, second)
+        self.kept[hours, beats] = pair
+        return pair
+
+    def pass_blocks(self, vector, hours, beats):
         chain, dwell = self.chain(hours, beats), [0] * len(vector)
         blocks, left = self.ladder.blocks_of(beats)
         beat = (1, 0, self.ends)
@@ -221,7 +268,7 @@ class Mission:
             tails = self.means if numbers is self.ends else [sum(numbers[k + 1:]) for k in range(len(numbers) - 1)]
             vector, more = self.pass_block(chain, vector, low, numbers, tails)
             dwell = [total + x for total, x in zip(dwell, more)]
-        return vector, [hours * (total // beats) + hours * (total % beats) // beats for total in dwell]
+        return vector, dwell
 
     def pass_block(self, chain, vector, low, numbers, tails):
         """The vector at the end of some beats, and what it dwells in them."""
@@ -294,8 +341,7 @@ class Mission:
 
     def widest(self):
         """How wide the two intervals may be, in steps of 10^-18, by the count of all roundings."""
-        lumped, states = self.lumped, self.lumped.state_count
-        events = 4 * len(lumped.groups) + 3 * len(self.loop.subsystems)
+        lumped, states, events = self.lumped, self.lumped.state_count, self.lumped.event_count()
         group_tests = sum(s.test_of(first, hour) is not None for hour in lumped.test_hours
                           for s, first, _ in lumped.groups)
         budget = lumped.beats * (2 * events + 3 * states + self.missing + self.loop.order**2) \
