@@ -6,13 +6,14 @@ usage: bench/bench.py PROGRAM [RUNS]        for example: bench/bench.py ./sil 5
 Time and peak memory are those of the whole program, from start to end, the best of so many runs (5, if not said). Products
 and ticks are counted here, apart from the program, by the method that docs/MODEL.md describes: of each phase the binary
 digits of its beats, of each block of beats the ticks of its rung, of each tick the ways that have a rate between count
-vectors that are reached. No figure is a test. Standard library only.
+vectors that are reached; where a phase goes by the powers of its beat, one beat from each count vector and the products of
+matrices. No figure is a test. Standard library only.
 """
 import subprocess
 import sys
 import tempfile
 import time
-from math import comb
+from itertools import product
 from pathlib import Path
 
 TOP = Path(__file__).resolve().parent.parent
@@ -58,13 +59,31 @@ def reached(lumped):
     return len(seen), ways
 
 
+def all_ways(lumped):
+    """How many ways with a rate lead between all count vectors, and to each of them from itself."""
+    shares = [[(n - i, i - j, j - k, k) for i in range(n + 1) for j in range(i + 1) for k in range(j + 1)]
+              for _, _, n in lumped.groups]
+    return sum(1 + len({target for target, _, _ in lumped.events(state)}) for state in product(*shares))
+
+
 def counted(path):
     lumped = Lumped(read_loop(path))
     ladder = Ladder(lumped)
     beat = (1, 0, series_weights(lumped.loop.order)[0])
     size, ways = reached(lumped)
     ticks = products = 0
-    for _, beats in lumped.phases:
+    kept = None
+    for phase in lumped.phases:
+        beats = phase[1]
+        if lumped.passes_by_powers(beats):
+            states, made = lumped.state_count, len(beat[2]) - 1
+            if phase != kept:
+                joins = beats.bit_length() - 1 + bin(beats).count("1") - 1
+                ticks += states * made
+                products += made * states * all_ways(lumped) + 2 * states**2 * len(beat[2]) + joins * 2 * states**3
+                kept = phase
+            products += 2 * states**2
+            continue
         blocks, left = ladder.blocks_of(beats)
         for _, low, numbers in blocks + [beat] * left:
             made = low + len(numbers) - 1
