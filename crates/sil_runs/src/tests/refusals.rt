@@ -94,12 +94,20 @@ fn truncated_files(rt: HostRuntime) -> Result<(), Fail> {
     Ok(())
 }
 
-/// A byte that no text has is no TOML, wherever it stands.
+/// A byte that no text has is no TOML, in a name as well as in a comment.
 #[test]
 fn byte_of_no_text(rt: HostRuntime) -> Result<(), Fail> {
     let mut file: Vec<u8> = Vec::from_slice(rt.alloc(), ONE_CHANNEL.as_bytes())?;
     file.extend_from_slice(b"# \xff\n")?;
     assert!(rt; is_refused_by(rt.alloc(), "check loop.toml", &file, "refused: not TOML\n")?);
+    let mut name: Vec<u8> = Vec::from_slice(rt.alloc(), ONE_CHANNEL.as_bytes())?;
+    for byte in name.as_mut_slice() {
+        // the last letter of the name, and no other byte of the file
+        if *byte == b'f' {
+            *byte = 255;
+        }
+    }
+    assert!(rt; is_refused_by(rt.alloc(), "check loop.toml", &name, "refused: not TOML\n")?);
     Ok(())
 }
 
