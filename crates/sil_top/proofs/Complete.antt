@@ -13,8 +13,8 @@ use Rattle.verb_table.specs.declared.verb.Verb.TheVariants.{Check, Size, Gen, Be
 use Rattle.sil_watch.specs.Watching.{WatcherValue}
 use Rattle.sil_words.specs.Language.{Asks}
 use Rattle.sil_words.specs.declared.ask.Ask.{Ask}
-use Rattle.sil_top.specs.Complete.{IsQuiet, IsSound, IsSoundFile, IsOfferedOnce}
-use Rattle.sil_top.specs.Run.{Outcome, is_shown, takes_file, IsReported, IsSized, IsOverLimit, IsOfFile, IsFileOf, IsFaulty, IsTooLong, VerbCallsFor, CallsFor}
+use Rattle.sil_top.specs.Complete.{IsQuiet, IsSound, IsSoundFile, HandsSound, HandsSoundFile, IsOfferedOnce}
+use Rattle.sil_top.specs.Run.{Outcome, is_shown, takes_file, IsReported, IsSized, IsOverLimit, IsHandedWhole, IsOfFile, IsFileOf, IsFaulty, IsTooLong, VerbCallsFor, CallsFor}
 use Rattle.sil_top.specs.declared.Status.{Status}
 use Rattle.sil_top.specs.declared.Status.TheVariants.{Done, NotShown, Usage, FileRefused, ReadFault, WriteFault, Memory}
 
@@ -68,50 +68,82 @@ given_report : (before : List WatcherValue) (a : Ask) (l : LoopValue) (o : Outco
 given_report before a l o r = by_status _ _ r.status (shown_or_not (is_shown a.need a.mode r.report.pfd.band r.report.pfh.band))
 
 module _ (before : List WatcherValue) (tells : Bool) (file : List ℕ → Option (List ℕ)) (handed : Handed) where
-  -- the file that was handed out is the sound one
-  module _ (name : List ℕ) (told : IsTrue tells) (sound : IsSoundFile file name) where
-    same_bytes : (bytes : List ℕ) → file name ≡ Some bytes → bytes ≡ sound.bytes
-    same_bytes bytes e = let both : Some bytes ≡ Some sound.bytes = sym e ∙ sound.is_file in cc
+  -- what a file calls for is a whole answer, where what its loop calls for is one
+  abbrev GivesFile : List ℕ → Type 1
+  GivesFile name = (P : LoopValue → Outcome → Type 0) → ((l : LoopValue) (o : Outcome) → P l o → IsGiven o.status) → (o : Outcome)
+      → IsOfFile tells file handed name P o → IsGiven o.status
 
-    not_long : (o : Outcome) → IsTooLong tells file handed name o → ⊥
-    not_long o x =
-        let long = x.long told in
-        let short = sound.short in
-        let size : length long.0 ≡ length sound.bytes = ap length (same_bytes long.0 long.1) in
-        let many = long.2 in omega (arith, size, short, many)
-
+  -- the file that was handed out has these bytes, which are sound
+  module _ (name bytes : List ℕ) (value : LoopValue) (is_loop : IsLoopOf bytes value) (within : first_limit_of value value.order ≡ None)
+      (same : (others : List ℕ) → IsHandedWhole tells file handed name others → others ≡ bytes)
+      (not_long : (o : Outcome) → IsTooLong tells file handed name o → ⊥) where
     not_faulty : (o : Outcome) → IsFaulty tells file handed name o → ⊥
-    not_faulty o x =
-        let same = same_bytes x.bytes (x.whole.is_file told) in
-        sound_bytes sound.bytes sound.value x.fault sound.is_loop (subst (λ (bytes : List ℕ). HasFault bytes x.fault) same x.first)
+    not_faulty o x = sound_bytes bytes value x.fault is_loop (subst (λ (bs : List ℕ). HasFault bs x.fault) (same x.bytes x.whole) x.first)
 
     not_over : (l : LoopValue) (o : Outcome) → IsFileOf tells file handed name l → IsOverLimit l o → ⊥
     not_over l o is_file x =
-        let same = same_bytes is_file.bytes (is_file.whole.is_file told) in
-        let loop : l ≡ sound.value = one_loop sound.bytes l sound.value (subst (λ (bytes : List ℕ). IsLoopOf bytes l) same is_file.is_loop) sound.is_loop in
-        let none : first_limit_of l l.order ≡ None = subst (λ (m : LoopValue). first_limit_of m m.order ≡ None) (sym loop) sound.within in
+        let loop : l ≡ value = one_loop bytes l value (subst (λ (bs : List ℕ). IsLoopOf bs l) (same is_file.bytes is_file.whole) is_file.is_loop) is_loop in
+        let none : first_limit_of l l.order ≡ None = subst (λ (m : LoopValue). first_limit_of m m.order ≡ None) (sym loop) within in
         let some : Some x.fault ≡ None = sym x.first ∙ none in cc
 
-    given_file : (P : LoopValue → Outcome → Type 0) → ((l : LoopValue) (o : Outcome) → P l o → IsGiven o.status) → (o : Outcome)
-        → IsOfFile tells file handed name P o → IsGiven o.status
+    given_file : GivesFile name
     given_file P given o (inl x) = absurd (not_long o x)
     given_file P given o (inr (inl x)) = absurd (not_faulty o x)
     given_file P given o (inr (inr (l, is_file, inl x))) = absurd (not_over l o is_file x)
     given_file P given o (inr (inr (l, is_file, inr x))) = given l o x
 
-  given_verb : (v : Verb) (a : Ask) (o : Outcome) → (takes_file v ≡ true → IsTrue tells × IsSoundFile file a.name)
+  -- a file that the shelf tells
+  module _ (name : List ℕ) (told : IsTrue tells) (sound : IsSoundFile file name) where
+    same_bytes : (bytes : List ℕ) → file name ≡ Some bytes → bytes ≡ sound.bytes
+    same_bytes bytes e = let both : Some bytes ≡ Some sound.bytes = sym e ∙ sound.is_file in cc
+
+    told_not_long : (o : Outcome) → IsTooLong tells file handed name o → ⊥
+    told_not_long o x =
+        let long = x.long told in
+        let short = sound.short in
+        let size : length long.0 ≡ length sound.bytes = ap length (same_bytes long.0 long.1) in
+        let many = long.2 in omega (arith, size, short, many)
+
+    told_file : GivesFile name
+    told_file = given_file name sound.bytes sound.value sound.is_loop sound.within (λ bs w. same_bytes bs (w.is_file told)) told_not_long
+
+  -- a file that was handed out whole
+  module _ (name : List ℕ) (sound : HandsSoundFile handed name) where
+    same_handed : (bytes : List ℕ) → handed ≡ record { name = Some name; bytes = bytes } → bytes ≡ sound.bytes
+    same_handed bytes e = ap (λ (h : Handed). h.bytes) (sym e ∙ sound.is_handed)
+
+    handed_not_long : (o : Outcome) → IsTooLong tells file handed name o → ⊥
+    handed_not_long o x =
+        let hands = x.is_handed in
+        let size : length hands.more ≡ length sound.bytes = ap length (same_handed hands.more hands.handed) in
+        let long = hands.long in
+        let short = sound.short in omega (arith, size, short, long)
+
+    handed_file : GivesFile name
+    handed_file = given_file name sound.bytes sound.value sound.is_loop sound.within (λ bs w. same_handed bs w.is_handed) handed_not_long
+
+  given_verb : (v : Verb) (a : Ask) (o : Outcome) → (takes_file v ≡ true → GivesFile a.name)
       → VerbCallsFor before tells file handed v a o → IsGiven o.status
-  given_verb Check a o sound x = given_file a.name (sound refl).0 (sound refl).1 (IsReported before a) (given_report before a) o x
-  given_verb Size a o sound x = given_file a.name (sound refl).0 (sound refl).1 IsSized (λ l p s. by_status _ _ s.status tt) o x
-  given_verb Gen a o sound x = by_status _ _ x.status tt
-  given_verb Bench a o sound x = given_report before a _ o x
+  given_verb Check a o gives x = gives refl (IsReported before a) (given_report before a) o x
+  given_verb Size a o gives x = gives refl IsSized (λ l p s. by_status _ _ s.status tt) o x
+  given_verb Gen a o gives x = by_status _ _ x.status tt
+  given_verb Bench a o gives x = given_report before a _ o x
+
+  given_words : (words : List (List ℕ)) (asked : Ask) → Asks words asked → (takes_file asked.verb ≡ true → GivesFile asked.name)
+      → (o : Outcome) → CallsFor before tells file handed words o → IsGiven o.status
+  given_words words asked asks gives o (inl x) = absurd (x.outside asks.0)
+  given_words words asked asks gives o (inr x) =
+      let same : asked ≡ x.asked = one_asked words asked x.asked asks x.asks in
+      given_verb x.asked.verb x.asked o (subst (λ (a : Ask). takes_file a.verb ≡ true → GivesFile a.name) same gives) x.answer
 
   -- sound words and a sound file have a whole answer
   pub given_sound : (words : List (List ℕ)) → IsSound tells file words → (o : Outcome) → CallsFor before tells file handed words o → IsGiven o.status
-  given_sound words sound o (inl x) = absurd (x.outside sound.asks.0)
-  given_sound words sound o (inr x) =
-      let same : sound.asked ≡ x.asked = one_asked words sound.asked x.asked sound.asks x.asks in
-      given_verb x.asked.verb x.asked o (subst (λ (a : Ask). takes_file a.verb ≡ true → IsTrue tells × IsSoundFile file a.name) same sound.sound) x.answer
+  given_sound words sound o x =
+      given_words words sound.asked sound.asks (λ takes. told_file sound.asked.name (sound.sound takes).0 (sound.sound takes).1) o x
+
+  -- and so have sound words and bytes that were handed out and are a sound file
+  pub given_handed : (words : List (List ℕ)) → HandsSound handed words → (o : Outcome) → CallsFor before tells file handed words o → IsGiven o.status
+  given_handed words sound o x = given_words words sound.asked sound.asks (λ takes. handed_file sound.asked.name (sound.sound takes)) o x
 
 -- a text that is empty is not offered
 pub offered_once : (size : ℕ) (text : List ℕ) (before now : List (List ℕ)) → (size ≡ 0 → now ≡ before) → (0 < size → OffersWhole text before now)

@@ -6,6 +6,7 @@ use Rattle.sil_model.specs.declared.answers.LimitFault.{LimitFault}
 use Rattle.file_fault.specs.declared.FileFault.{FileFault}
 use Rattle.loop_file.specs.LoopFile.{IsLoopOf, HasFault}
 use Rattle.sil_io.specs.Bytes.{OffersWhole}
+use Rattle.sil_io.specs.Handed.{Handed}
 use Rattle.sil_report.specs.Texts.{too_long_line, file_fault_line_of, limit_fault_line_of}
 use Rattle.sil_words.specs.Language.{Asks}
 use Rattle.sil_words.specs.declared.ask.Ask.{Ask}
@@ -30,6 +31,21 @@ pub record IsSound (tells : Bool) (file : List ℕ → Option (List ℕ)) (words
   pub asked : Ask
   pub asks : Asks words asked
   pub sound : takes_file asked.verb ≡ true → IsTrue tells × IsSoundFile file asked.name
+
+-- the bytes handed out are a file of this name, whole: they are not too many, they have no fault, and their loop exceeds no limit
+pub record HandsSoundFile (handed : Handed) (name : List ℕ) : Type 0 where
+  pub bytes : List ℕ
+  pub is_handed : handed ≡ record { name = Some name; bytes = bytes }
+  pub short : length bytes ≤ most_file_bytes
+  pub value : LoopValue
+  pub is_loop : IsLoopOf bytes value
+  pub within : first_limit_of value value.order ≡ None
+
+-- the words are in the language, and what was handed out is a sound file of the name that they ask for, if they ask for one
+pub record HandsSound (handed : Handed) (words : List (List ℕ)) : Type 0 where
+  pub asked : Ask
+  pub asks : Asks words asked
+  pub sound : takes_file asked.verb ≡ true → HandsSoundFile handed asked.name
 
 -- The file under a name is refused by a line.
 module _ (file : List ℕ → Option (List ℕ)) (name line : List ℕ) where

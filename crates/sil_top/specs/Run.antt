@@ -143,7 +143,7 @@ module _ (before : List WatcherValue) (tells : Bool) (file : List ℕ → Option
   abbrev pub CallsFor : List (List ℕ) → Outcome → Type 0
   CallsFor words o = IsUsage words o ⊎ IsAnswer words o
 
--- the words ask for a file, and the run ended before it was handed out whole, or read as a loop
+-- the words ask for a file, and the run ended with no more of it handed out than a loop file has
 pub record IsStopped (tells : Bool) (file : List ℕ → Option (List ℕ)) (handed : Handed) (words : List (List ℕ)) : Type 0 where
   pub asked : Ask
   pub asks : Asks words asked

@@ -11,7 +11,7 @@ ghost use Rattle.sil_io.specs.Faults.{CountsFault};
 ghost use Rattle.sil_io.specs.Bytes.{AppendsPart};
 ghost use Rattle.sil_words.specs.Language.{Asks, IsInLanguage};
 ghost use Rattle.sil_words.specs.declared.ask.Ask.{Ask};
-ghost use Rattle.sil_top.specs.Complete.{IsHeld, IsMissing, IsOffered, IsOfferedOnce, IsQuiet, IsRefused, IsSound};
+ghost use Rattle.sil_top.specs.Complete.{HandsSound, IsHeld, IsMissing, IsOffered, IsOfferedOnce, IsQuiet, IsRefused, IsSound};
 ghost use Rattle.sil_top.specs.Run.{CallsFor, IsFileAsked, IsStopped};
 
 use crate::answer::Fault;
@@ -111,6 +111,13 @@ pub fn run<S: Shelf, K: Sink>(
     // Completeness: words in the language, a told file without fault or limit, if they ask for one, and no rise of either count
     // of faults give the whole answer, or want of memory.
     ensures complete { IsSound S.tells (S.file shelf.old) (map string_bytes words.now)
+        → IsQuiet (S.faults shelf.old) (S.faults shelf.new) → IsQuiet (K.faults sink.old) (K.faults sink.new)
+        → (result ≡ Status.Memory) ⊎ (((result ≡ Status.Done) ⊎ (result ≡ Status.NotShown)) × ((text : List ℕ)
+        × CallsFor (map (λ w. watcher_value w) watchers.items) S.tells (S.file shelf.old) (S.handed shelf.new) (map string_bytes words.now) (record { status = result; text = text })
+        × (K.taken sink.new ≡ K.taken sink.old ++ text)
+        × (IsTrue K.tells → K.written sink.new ≡ K.written sink.old ++ text))) }
+    // The same of a file that was handed out whole, also where the shelf tells nothing, as real files.
+    ensures complete_handed { HandsSound (S.handed shelf.new) (map string_bytes words.now)
         → IsQuiet (S.faults shelf.old) (S.faults shelf.new) → IsQuiet (K.faults sink.old) (K.faults sink.new)
         → (result ≡ Status.Memory) ⊎ (((result ≡ Status.Done) ⊎ (result ≡ Status.NotShown)) × ((text : List ℕ)
         × CallsFor (map (λ w. watcher_value w) watchers.items) S.tells (S.file shelf.old) (S.handed shelf.new) (map string_bytes words.now) (record { status = result; text = text })

@@ -4,7 +4,7 @@ use Rattle.sil_io.specs.Faults.{CountsFault}
 use Rattle.sil_report.specs.Texts.{too_long_line}
 use Rattle.sil_words.specs.Language.{IsInLanguage}
 use Rattle.sil_top.specs.Causes.{refused_by}
-use Rattle.sil_top.proofs.Complete.{IsGiven, done_or_not_shown, given_sound, no_fault}
+use Rattle.sil_top.proofs.Complete.{IsGiven, done_or_not_shown, given_handed, given_sound, no_fault}
 use Rattle.sil_top.specs.declared.Status.TheVariants.{Usage}
 use Rattle.sil_top.proofs.Refused.{refused_alone, nothing_called}
 use Rattle.sil_top.proofs.Told.{IsTold, told, under}
@@ -125,6 +125,42 @@ returns-in-Err-Refused-clause-complete g c = λ sound shelf sink.
 
 pub returns-in-Err-Read-clause-complete : goal.returns-in-Err-Read-clause-complete
 returns-in-Err-Read-clause-complete g c = λ sound shelf sink.
+    let stopped : CountsFault (g.S.Shelf.faults c.args.shelf.now) (g.S.Shelf.faults c.answer_to.new.shelf) = (rw c.in-Err-Read.field-0-is at c.in-Err-Read.ensures.cause).1 in
+    absurd (no_fault _ _ shelf stopped)
+
+-- The same of a file that was handed out.
+
+pub returns-in-Ok-clause-complete_handed : goal.returns-in-Ok-clause-complete_handed
+returns-in-Ok-clause-complete_handed g c = λ sound shelf sink. elim c.write_text.ensures.one_of_two [
+  | inl same ↦
+      let given = given_handed _ g.S.Shelf.tells (g.S.Shelf.file c.args.shelf.now) (g.S.Shelf.handed c.answer_to.new.shelf) (map string_bytes c.args.words.now) sound _ c.in-Ok.ensures.answer in
+      inr (
+        done_or_not_shown _ (subst IsGiven (sym same) given),
+        (
+          c.deref.result.now,
+          under _ g.S.Shelf.tells (g.S.Shelf.file c.args.shelf.now) (g.S.Shelf.handed c.answer_to.new.shelf) (map string_bytes c.args.words.now) _ _ _ _ (sym same) (sym c.deref.ensures.value) (rw c.as_mut_slice.ensures.value at c.in-Ok.ensures.answer),
+          c.write_text.ensures.all_taken same,
+          c.write_text.ensures.whole same,
+        ),
+      )
+  | inr fault ↦ absurd (no_fault _ _ sink (c.write_text.ensures.part fault).0)
+]
+
+pub returns-in-Err-Usage-clause-complete_handed : goal.returns-in-Err-Usage-clause-complete_handed
+returns-in-Err-Usage-clause-complete_handed g c = λ sound shelf sink.
+    let outside : IsInLanguage (map string_bytes c.args.words.now) → ⊥ = rw c.in-Err-Usage.field-0-is at c.in-Err-Usage.ensures.cause in
+    absurd (outside sound.asks.0)
+
+pub returns-in-Err-TooLong-clause-complete_handed : goal.returns-in-Err-TooLong-clause-complete_handed
+returns-in-Err-TooLong-clause-complete_handed g c = λ sound shelf sink.
+    absurd (given_handed _ g.S.Shelf.tells (g.S.Shelf.file c.args.shelf.now) (g.S.Shelf.handed c.answer_to.new.shelf) (map string_bytes c.args.words.now) sound (refused_by too_long_line) (rw c.in-Err-TooLong.field-0-is at c.in-Err-TooLong.ensures.cause))
+
+pub returns-in-Err-Refused-clause-complete_handed : goal.returns-in-Err-Refused-clause-complete_handed
+returns-in-Err-Refused-clause-complete_handed g c = λ sound shelf sink.
+    absurd (given_handed _ g.S.Shelf.tells (g.S.Shelf.file c.args.shelf.now) (g.S.Shelf.handed c.answer_to.new.shelf) (map string_bytes c.args.words.now) sound (refused_by c.in-Err-Refused.line.items) (rw c.in-Err-Refused.field-0-is at c.in-Err-Refused.ensures.cause))
+
+pub returns-in-Err-Read-clause-complete_handed : goal.returns-in-Err-Read-clause-complete_handed
+returns-in-Err-Read-clause-complete_handed g c = λ sound shelf sink.
     let stopped : CountsFault (g.S.Shelf.faults c.args.shelf.now) (g.S.Shelf.faults c.answer_to.new.shelf) = (rw c.in-Err-Read.field-0-is at c.in-Err-Read.ensures.cause).1 in
     absurd (no_fault _ _ shelf stopped)
 
