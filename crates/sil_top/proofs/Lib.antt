@@ -2,4 +2,5 @@ pub mod Bands
 pub mod Complete
 pub mod Refused
 pub mod Reports
+pub mod SeriesTells
 pub mod Told

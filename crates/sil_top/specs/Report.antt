@@ -1,5 +1,5 @@
 -- What makes a report true.
-use Rattle.std.specs.Prelude.{◌≡◌, ℕ, ◌+◌, ◌/◌, ◌<◌, ◌≤◌, ◌^◌, List, ◌++◌, length, None}
+use Rattle.std.specs.Prelude.{◌≡◌, ℕ, ◌+◌, ◌/◌, ◌<◌, ◌≤◌, ◌^◌, List, [], ◌∷◌, ◌++◌, length, map, None}
 use Rattle.sil_model.specs.LoopValue.{LoopValue}
 use Rattle.sil_model.specs.Budget.{pfd_width_of, pfh_width_of}
 use Rattle.sil_model.specs.Calendar.{phases_of}
@@ -10,9 +10,11 @@ use Rattle.limit_laws.specs.Exact.{Figure, figure_of, ContainsExact18}
 use Rattle.limit_laws.specs.Exact.Figure.{Pfd, Pfh}
 use Rattle.sil_report.specs.FixedBy.{Interval, Counts}
 use Rattle.sil_report.specs.Reports.{report_lines}
-use Rattle.sil_watch.specs.Lines.{lines_of_all}
+use Rattle.sil_watch.specs.Lines.{lines_of_all, line_of_record, text_of_lines}
+use Rattle.sil_watch.specs.Series.{series_value}
 use Rattle.sil_watch.specs.Watching.{WatcherValue}
-use Rattle.loop_value.specs.Records.{HasFed}
+use Rattle.sil_watch.specs.declared.record.PhaseRecord.{PhaseRecord}
+use Rattle.loop_value.specs.Records.{HasFed, AreRecordsFrom}
 
 -- the counts of a loop, at its order of the series
 abbrev pub counts_of : LoopValue → Counts
@@ -52,6 +54,17 @@ pub record IsToldOfPhases (l : LoopValue) (asked : ℕ) (before : List WatcherVa
   pub after : List WatcherValue
   pub fed : HasFed l l.order (length (phases_of l)) asked before after
   pub printed : text ≡ lines_of_all asked after
+
+-- the text has the lines of one true record of each phase, in order of the phases, each ended by a line feed
+pub record IsTextOfPhases (l : LoopValue) (text : List ℕ) : Type 0 where
+  pub records : List PhaseRecord
+  pub number : length records ≡ length (phases_of l)
+  pub are : AreRecordsFrom l l.order 0 records
+  pub printed : text ≡ text_of_lines (map line_of_record records)
+
+-- that is what a series tells which had no record before and is asked for
+pub record SeriesTells : Type 0 where
+  pub told : (l : LoopValue) (text : List ℕ) → IsToldOfPhases l 1 (series_value [] ∷ []) text → IsTextOfPhases l text
 
 -- one report of a loop has one interval of each figure, and where it ends is told by its text, whatever is written behind it
 pub record ReportsFixFigures : Type 0 where

@@ -15,7 +15,7 @@ ghost use Rattle.sil_top.specs.Complete.{HandsSound, IsHeld, IsMissing, IsOffere
 ghost use Rattle.sil_top.specs.Run.{CallsFor, IsFileAsked, IsStopped};
 
 use crate::answer::Fault;
-pub use crate::figures::reports_fix_figures;
+pub use crate::figures::{reports_fix_figures, series_tells};
 use crate::verbs::answer_to;
 use sil_io::{Shelf, Sink, write_whole};
 use sil_report::{too_long_text, usage_text};
