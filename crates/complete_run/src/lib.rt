@@ -6,10 +6,10 @@
 //! nothing at all ([`check_drawn`]).
 #![tactic(auto)]
 
-ghost use Rattle.std.specs.Prelude.{◌≡◌, codes, List, [], ◌∷◌, map, string_bytes, IfOk, IfSome};
+ghost use Rattle.std.specs.Prelude.{◌≡◌, codes, List, [], ◌∷◌, map, string_bytes, IfOk, IfNone, IfSome};
 ghost use Rattle.sil_model.specs.LoopValue.{LoopValue};
 ghost use Rattle.loop_gen.specs.Drawn.{drawn_of};
-ghost use Rattle.complete_run.specs.Whole.{AreSound, IsWhole};
+ghost use Rattle.complete_run.specs.Whole.{AreSound, AreUnsound, HasLongFile, IsWhole};
 
 use file_fault::FileFault;
 use loop_file::read_loop;
@@ -51,8 +51,10 @@ pub fn check_file(alloc: Global, file: &[u8]) -> Result<(Status, MemSink), Alloc
 }
 
 /// The same of a file that is read first, and `None` where it is not sound.
+#[tactic(auto, using(crate::proofs::Unsound::long_file, crate::proofs::Unsound::faulty_file, crate::proofs::Unsound::loop_over_limit))]
 pub fn check_sound(alloc: Global, file: &[u8]) -> Result<Option<(Status, MemSink)>, AllocError>
-    ensures { IfOk result (λ found. IfSome found (λ ended. (l : LoopValue) × AreSound file.now l × IsWhole l ended.0 ended.1.written)) }
+    ensures whole { IfOk result (λ found. IfSome found (λ ended. (l : LoopValue) × AreSound file.now l × IsWhole l ended.0 ended.1.written)) }
+    ensures none { IfOk result (λ found. IfNone found (AreUnsound file.now)) }
 {
     if file.len() > MOST_FILE_BYTES {
         return Ok(None);
@@ -71,7 +73,8 @@ pub fn check_sound(alloc: Global, file: &[u8]) -> Result<Option<(Status, MemSink
 
 /// The same of the loop file that is printed of the loop of a number, and `None` where that is longer than a loop file may be.
 pub fn check_drawn(alloc: Global, number: u64) -> Result<Option<(Status, MemSink)>, AllocError>
-    ensures { IfOk result (λ found. IfSome found (λ ended. IsWhole (drawn_of number) ended.0 ended.1.written)) }
+    ensures whole { IfOk result (λ found. IfSome found (λ ended. IsWhole (drawn_of number) ended.0 ended.1.written)) }
+    ensures none { IfOk result (λ found. IfNone found (HasLongFile (drawn_of number))) }
 {
     let l = make_loop(alloc, number)?;
     let file = print_loop(alloc, &l)?;
