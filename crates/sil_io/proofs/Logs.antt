@@ -1,6 +1,6 @@
 -- What pieces of bytes come to, and what was offered piece by piece.
-use Rattle.std.proofs.Common.{◌≡◌, ℕ, ◌-◌, ◌<◌, ◌++◌, List, [], ◌∷◌, Option, Some, drop, suc, zero, refl, sym, ◌∙◌, ap, append_assoc, arith}
-use Rattle.std.specs.List.{concat, last_or, All}
+use Rattle.std.proofs.Common.{◌≡◌, ℕ, ◌<◌, ◌++◌, List, [], ◌∷◌, Option, Some, drop, suc, zero, refl, ◌∙◌, ap, append_assoc, arith}
+use Rattle.std.specs.List.{concat, last_or}
 use Rattle.std.proofs.lemmas.List.{append-nil}
 use Rattle.std.proofs.lemmas.List.Elements.{All-nil, All-push}
 use Rattle.std.proofs.lemmas.List.Folds.{concat-append}

@@ -1,5 +1,5 @@
 -- A sink in memory, as contracts see it.
-use Rattle.std.specs.Prelude.{◌≡◌, ℕ, ◌-◌, ◌<◌, ◌⊎◌, Bool, true, false, List, Option, Some, None, min, option_map, IsTrue}
+use Rattle.std.specs.Prelude.{◌≡◌, ℕ, ◌-◌, ◌<◌, ◌⊎◌, Bool, true, false, List, Option, Some, None, min, option_map}
 use Rattle.sil_io.specs.declared.memory_sink.Stop.{Stop}
 
 pub record SinkState : Type 0 where

@@ -47,6 +47,7 @@ pub trait Shelf {
         ensures tried { tried self.new ≡ tried self.old ++ name.now ∷ [] }
         ensures noted { failed self.new ≡ is_err result }
         ensures faults_never_fall { faults self.old ≤ faults self.new }
+        ensures no_fault { OnOk result (faults self.new ≡ faults self.old) }
         ensures failed { OnErr result (CountsFault (faults self.old) (faults self.new)) }
         ensures calm_stays { calm self.old → calm self.new }
         ensures calm_picks { calm self.old → IsSome (file self.old name.now) → IsOk result × (faults self.new ≡ faults self.old) };
@@ -68,6 +69,7 @@ pub trait Shelf {
         ensures failed_stays { OnOk result (failed self.new ≡ failed self.old) }
         ensures noted { OnErr result (failed self.new ≡ true) }
         ensures faults_never_fall { faults self.old ≤ faults self.new }
+        ensures no_fault { OnOk result (faults self.new ≡ faults self.old) }
         ensures failed { OnErr result (CountsFault (faults self.old) (faults self.new)) }
         ensures calm_stays { calm self.old → calm self.new }
         ensures calm_reads { calm self.old → IsOk result × (faults self.new ≡ faults self.old) };
@@ -113,6 +115,7 @@ pub fn read_to_limit<S: Shelf>(
     ensures noted { IsErrOf result ReadFault.Failed → S.failed shelf.new ≡ true }
     ensures untouched { (e : AllocError) → IsErrOf result (ReadFault.Memory e) → shelf.new ≡ shelf.old }
     ensures faults_never_fall { S.faults shelf.old ≤ S.faults shelf.new }
+    ensures no_fault { OnOk result (S.faults shelf.new ≡ S.faults shelf.old) }
     // Over a calm shelf no read fails, and it stays calm with its count.
     ensures calm_stays { S.calm shelf.old → S.calm shelf.new }
     ensures calm_count { S.calm shelf.old → S.faults shelf.new ≡ S.faults shelf.old }

@@ -48,6 +48,7 @@ pub trait Sink {
         ensures stalls { IsTrue (stalled self.new) ↔ ((result ≡ Ok 0) × (0 < length bytes.now)) }
         ensures noted { failed self.new ≡ is_err result }
         ensures faults_never_fall { faults self.old ≤ faults self.new }
+        ensures no_fault { OnOk result (faults self.new ≡ faults self.old) }
         ensures failed { OnErr result (CountsFault (faults self.old) (faults self.new)) }
         ensures roomy { 0 < length bytes.now → length bytes.now ≤ room self.old → (result ≡ Ok (length bytes.now)) × (faults self.new ≡ faults self.old) };
 
@@ -79,6 +80,7 @@ pub fn write_whole<K: Sink>(sink: &mut K, bytes: &[u8]) -> Result<(), Failed>
     ensures over { 0 < length bytes.now → K.stalled sink.new ≡ false }
     ensures noted { 0 < length bytes.now → K.failed sink.new ≡ is_err result }
     ensures faults_never_fall { K.faults sink.old ≤ K.faults sink.new }
+    ensures no_fault { OnOk result (K.faults sink.new ≡ K.faults sink.old) }
     ensures failed { OnErr result (CountsFault (K.faults sink.old) (K.faults sink.new)) }
     // A sink with room for the bytes takes them, without a fault.
     ensures roomy { length bytes.now ≤ K.room sink.old → IsOk result × (K.faults sink.new ≡ K.faults sink.old) }

@@ -29,8 +29,7 @@ loop-preserved g c =
       tried_stay = c.in-Ok.ensures.tried_stay ∙ c.loop.invariant.tried_stay;
       failed_stays = c.in-Ok.ensures.failed_stays ∙ c.loop.invariant.failed_stays;
       calm_stays = λ calm. c.in-Ok.ensures.calm_stays (c.loop.invariant.calm_stays calm);
-      calm_count = λ calm. (c.in-Ok.ensures.calm_reads (c.loop.invariant.calm_stays calm)).1 ∙ c.loop.invariant.calm_count calm;
-      faults_never_fall = omega arith;
+      no_fault = c.in-Ok.ensures.no_fault ∙ c.loop.invariant.no_fault;
     }
 
 -- a read that failed
@@ -41,7 +40,7 @@ pub returns-in-Err-clause-calm_stays : goal.returns-in-Err-clause-calm_stays
 returns-in-Err-clause-calm_stays g c = λ calm. c.in-Err.ensures.calm_stays (c.loop.invariant.calm_stays calm)
 
 pub returns-in-Err-clause-calm_count : goal.returns-in-Err-clause-calm_count
-returns-in-Err-clause-calm_count g c = λ calm. (c.in-Err.ensures.calm_reads (c.loop.invariant.calm_stays calm)).1 ∙ c.loop.invariant.calm_count calm
+returns-in-Err-clause-calm_count g c = λ calm. (c.in-Err.ensures.calm_reads (c.loop.invariant.calm_stays calm)).1 ∙ c.loop.invariant.no_fault
 
 pub returns-in-Err-clause-calm_reads : goal.returns-in-Err-clause-calm_reads
 returns-in-Err-clause-calm_reads g c = λ calm failed. let never = (c.in-Err.ensures.calm_reads (c.loop.invariant.calm_stays calm)).0 in cc
@@ -57,7 +56,10 @@ pub returns-in-Ok-eq0-clause-calm_stays : goal.returns-in-Ok-eq0-clause-calm_sta
 returns-in-Ok-eq0-clause-calm_stays g c = λ calm. c.in-Ok-eq0.ensures.calm_stays (c.loop.invariant.calm_stays calm)
 
 pub returns-in-Ok-eq0-clause-calm_count : goal.returns-in-Ok-eq0-clause-calm_count
-returns-in-Ok-eq0-clause-calm_count g c = λ calm. (c.in-Ok-eq0.ensures.calm_reads (c.loop.invariant.calm_stays calm)).1 ∙ c.loop.invariant.calm_count calm
+returns-in-Ok-eq0-clause-calm_count g c = λ _. c.in-Ok-eq0.ensures.no_fault ∙ c.loop.invariant.no_fault
+
+pub returns-in-Ok-eq0-clause-no_fault : goal.returns-in-Ok-eq0-clause-no_fault
+returns-in-Ok-eq0-clause-no_fault g c = c.in-Ok-eq0.ensures.no_fault ∙ c.loop.invariant.no_fault
 
 -- more than the limit
 pub returns-clause-tried_stay : goal.returns-clause-tried_stay
@@ -67,4 +69,4 @@ pub returns-clause-calm_stays : goal.returns-clause-calm_stays
 returns-clause-calm_stays g c = c.loop.invariant.calm_stays
 
 pub returns-clause-calm_count : goal.returns-clause-calm_count
-returns-clause-calm_count g c = c.loop.invariant.calm_count
+returns-clause-calm_count g c = λ _. c.loop.invariant.no_fault

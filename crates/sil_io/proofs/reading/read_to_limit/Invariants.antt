@@ -16,6 +16,5 @@ invariant-loop g l = record {
   tried_stay : g.S.Shelf.tried l.shelf ≡ g.S.Shelf.tried l.initial.shelf;
   failed_stays : g.S.Shelf.failed l.shelf ≡ g.S.Shelf.failed l.initial.shelf;
   calm_stays : g.S.Shelf.calm l.initial.shelf → g.S.Shelf.calm l.shelf;
-  calm_count : g.S.Shelf.calm l.initial.shelf → g.S.Shelf.faults l.shelf ≡ g.S.Shelf.faults l.initial.shelf;
-  faults_never_fall : g.S.Shelf.faults l.initial.shelf ≤ g.S.Shelf.faults l.shelf;
+  no_fault : g.S.Shelf.faults l.shelf ≡ g.S.Shelf.faults l.initial.shelf;
 }

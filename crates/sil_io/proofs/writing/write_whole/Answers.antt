@@ -21,11 +21,6 @@ first_fits room text piece zero initial now below size begun all fits =
     (refl, same, omega (arith, below, size), subst (λ s. length piece ≤ room s) (sym same) (omega (arith, size, fits)))
 first_fits room text piece (suc d) initial now below size begun all fits = let whole = all (omega arith) in absurd (omega (arith, below, whole))
 
-faults_stay : {S : Type 0} (faults : S → ℕ) (done : ℕ) (initial now : S) → (done ≡ 0 → now ≡ initial) → (0 < done → faults now ≡ faults initial)
-    → faults now ≡ faults initial
-faults_stay faults zero initial now begun some = ap faults (begun refl)
-faults_stay faults (suc d) initial now begun some = some (omega arith)
-
 pub loop-done-preserved : goal.loop-done-preserved
 loop-done-preserved g c =
     let within : c.in_ok-count.count ≤ length c.args.bytes.now - c.loop-done.done =
@@ -46,12 +41,12 @@ loop-done-preserved g c =
       whole = λ some fits.
           let size = rest_size c.loop-done.done c.args.bytes.now in
           let first = first_fits g.K.Sink.room c.args.bytes.now _ c.loop-done.done c.args.sink.now _ c.loop-done-test.true size
-          c.loop-done.invariant.begun (λ more. (c.loop-done.invariant.whole more fits).0) fits in
+          c.loop-done.invariant.begun (λ more. c.loop-done.invariant.whole more fits) fits in
           let none = first.0 in
           let took = c.in_ok-count.ensures.roomy first.2 first.3 in
           let count : c.in_ok-count.count ≡ length (take (length c.args.bytes.now - c.loop-done.done) (drop c.loop-done.done c.args.bytes.now)) = let e = took.0 in cc in
-          (omega (arith, none, count, size), took.1 ∙ ap g.K.Sink.faults first.1);
-      faults_never_fall = omega arith;
+          omega (arith, none, count, size);
+      no_fault = c.in_ok-count.ensures.no_fault ∙ c.loop-done.invariant.no_fault;
     }
 
 pub returns-in_err-count-clause-offered : goal.returns-in_err-count-clause-offered
@@ -66,7 +61,7 @@ returns-then-count-eq0-clause-offered g c = λ some. offers-more c.args.bytes.no
 pub returns-in_err-count-clause-roomy : goal.returns-in_err-count-clause-roomy
 returns-in_err-count-clause-roomy g c = λ fits.
     let first = first_fits g.K.Sink.room c.args.bytes.now _ c.loop-done.done c.args.sink.now _ c.loop-done-test.true (rest_size c.loop-done.done c.args.bytes.now)
-    c.loop-done.invariant.begun (λ more. (c.loop-done.invariant.whole more fits).0) fits in
+    c.loop-done.invariant.begun (λ more. c.loop-done.invariant.whole more fits) fits in
     let took = (c.in_err-count.ensures.roomy first.2 first.3).0 in
     let none : ⊥ = cc in absurd none
 
@@ -74,15 +69,17 @@ pub returns-then-count-eq0-clause-roomy : goal.returns-then-count-eq0-clause-roo
 returns-then-count-eq0-clause-roomy g c = λ fits.
     let size = rest_size c.loop-done.done c.args.bytes.now in
     let first = first_fits g.K.Sink.room c.args.bytes.now _ c.loop-done.done c.args.sink.now _ c.loop-done-test.true size
-    c.loop-done.invariant.begun (λ more. (c.loop-done.invariant.whole more fits).0) fits in
+    c.loop-done.invariant.begun (λ more. c.loop-done.invariant.whole more fits) fits in
     let took = (c.in_ok-count.ensures.roomy first.2 first.3).0 in
     let some = first.2 in
     let count : c.in_ok-count.count ≡ length (take (length c.args.bytes.now - c.loop-done.done) (drop c.loop-done.done c.args.bytes.now)) = cc in
     let none = c.if-count-eq0.true in absurd (omega (arith, count, none, some))
 
 pub returns-clause-roomy : goal.returns-clause-roomy
-returns-clause-roomy g c = λ fits.
-    (refl, faults_stay g.K.Sink.faults c.loop-done.done c.args.sink.now _ c.loop-done.invariant.begun (λ some. (c.loop-done.invariant.whole some fits).1))
+returns-clause-roomy g c = λ _. (refl, c.loop-done.invariant.no_fault)
+
+pub returns-clause-no_fault : goal.returns-clause-no_fault
+returns-clause-no_fault g c = c.loop-done.invariant.no_fault
 
 pub returns-clause-untouched : goal.returns-clause-untouched
 returns-clause-untouched g c = λ none. c.loop-done.invariant.begun (let h = c.loop-done.invariant.in_range in omega (arith, none, h))

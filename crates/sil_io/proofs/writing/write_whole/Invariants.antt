@@ -12,9 +12,8 @@ invariant-loop-done g l = record {
   offered : 0 < l.done → OffersWhole l.bytes (g.K.Sink.offered l.initial.sink) (g.K.Sink.offered l.sink);
   over : 0 < l.done → g.K.Sink.stalled l.sink ≡ false;
   noted : 0 < l.done → g.K.Sink.failed l.sink ≡ false;
-  whole : 0 < l.done → length l.bytes ≤ g.K.Sink.room l.initial.sink
-      → (l.done ≡ length l.bytes) × (g.K.Sink.faults l.sink ≡ g.K.Sink.faults l.initial.sink);
-  faults_never_fall : g.K.Sink.faults l.initial.sink ≤ g.K.Sink.faults l.sink;
+  whole : 0 < l.done → length l.bytes ≤ g.K.Sink.room l.initial.sink → l.done ≡ length l.bytes;
+  no_fault : g.K.Sink.faults l.sink ≡ g.K.Sink.faults l.initial.sink;
 }
 
 abbrev pub decreases-loop-done : goal.decreases-loop-done

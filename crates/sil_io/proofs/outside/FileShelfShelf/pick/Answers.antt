@@ -1,4 +1,4 @@
-use Rattle.std.proofs.Common.{◌≡◌, Some, None, [], ◌∙◌, ap}
+use Rattle.std.proofs.Common.{◌≡◌, Some, None, ◌∙◌, ap}
 use Rattle.std.specs.List.{concat, last_or}
 use Rattle.sil_io.proofs.Logs.{last_or-push}
 use Rattle.sil_io.proofs.outside.FileShelfShelf.pick.Goals as goal

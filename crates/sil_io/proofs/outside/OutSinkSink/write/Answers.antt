@@ -1,4 +1,4 @@
-use Rattle.std.proofs.Common.{◌≡◌, ◌++◌, take, ◌∙◌, ap}
+use Rattle.std.proofs.Common.{◌++◌, take, ◌∙◌, ap}
 use Rattle.std.specs.List.{concat}
 use Rattle.sil_io.proofs.Logs.{concat-push}
 use Rattle.sil_io.proofs.outside.OutSinkSink.write.Goals as goal
