@@ -4,7 +4,7 @@
 use sil_io::{FileShelf, OutSink};
 use sil_top::{Status, run};
 use sil_watch::{Series, Watcher};
-use std::io::ErrorKind;
+use std::io::{self, ErrorKind};
 use std::process::ExitCode;
 
 fn main(rt: HostRuntime) -> ExitCode {
@@ -28,7 +28,7 @@ fn main(rt: HostRuntime) -> ExitCode {
         return exit_code(Status::Memory);
     }
     let mut shelf = FileShelf::new(&rt);
-    let mut sink = OutSink::new(&rt);
+    let mut sink = OutSink::new(io::writer(&rt));
     exit_code(run(rt.alloc(), &words, &mut shelf, &mut sink, watchers))
 }
 

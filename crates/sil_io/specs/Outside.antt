@@ -21,8 +21,10 @@ pub record FilesState : Type 0 where
 abbrev pub handed_by : Bool → List (List ℕ) → List (List ℕ) → Handed
 handed_by picked tried pieces = record { name = if picked then last_or None tried else None; bytes = concat pieces }
 
--- the standard output
+-- a writer, as the standard output is one
 pub record OutState : Type 0 where
+  -- the bytes that the writer holds, where it tells them
+  pub held : Option (List ℕ)
   -- the bytes that a write answered to have taken
   pub taken : List ℕ
   -- the pieces that were offered, in order

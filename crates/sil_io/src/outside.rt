@@ -3,9 +3,9 @@
 //!
 //! The clauses hold of every runtime. So where a runtime's files tell what their reads will give, as files in memory may,
 //! `read` hands out just that; and where a writer tells what it holds, a write appends just what it answers. Two things no
-//! clause of the library can tie, and they are read here by eye: [`fs::open`] opens the file of the name that it is given,
-//! and [`io::writer`] writes to the standard output.
-ghost use Rattle.std.specs.Prelude.{◌≡◌, ℕ, ◌≤◌, ◌<◌, ◌++◌, ◌∷◌, [], None, true, false, length, take, is_ok, is_err, IfOk, OnOk, OnErr};
+//! clause of the library can tie, and they are read by eye: here [`fs::open`] opens the file of the name that it is given,
+//! and the writer that [`OutSink`] is made of, [`io::writer`] in the program, writes to the standard output.
+ghost use Rattle.std.specs.Prelude.{◌≡◌, ℕ, ◌≤◌, ◌<◌, ◌++◌, ◌∷◌, ◌↔◌, [], None, true, false, length, take, is_ok, is_err, IsTrue, IfOk, OnOk, OnErr};
 ghost use Rattle.std.specs.Io.KnownBytes.{Appends, Consumes, Keeps, IsAtEnd};
 ghost use Rattle.sil_io.specs.Faults.{CountsFault, counted};
 ghost use Rattle.sil_io.specs.Handed.{nothing_handed, handed_more};
@@ -143,10 +143,10 @@ impl<R: Files> Shelf for FileShelf<'_, R> {
     }
 }
 
-/// The standard output, flushed at each write.
+/// A writer, as the standard output is one, flushed at each write.
 #[derive(Drop)]
-pub struct OutSink<'a, R: Print> {
-    rt: &'a R,
+pub struct OutSink<W: Write + Drop> {
+    out: W,
     taken: Log,
     offered: Log,
     stalled: bool,
@@ -154,22 +154,22 @@ pub struct OutSink<'a, R: Print> {
     faults: u64,
 }
 
-impl<'a, R: Print> Model for OutSink<'a, R> {
+impl<W: Write + Drop> Model for OutSink<W> {
     ghost use Rattle.std.specs.List.{concat};
     ghost use Rattle.sil_io.specs.Outside.{OutState};
 
     ghost Value = { OutState };
 
-    ghost view = { λ s. record { taken = concat s.taken.value; offered = s.offered.value; stalled = s.stalled; failed = s.failed; faults = s.faults } };
+    ghost view = { λ s. record { held = W.contents s.out; taken = concat s.taken.value; offered = s.offered.value; stalled = s.stalled; failed = s.failed; faults = s.faults } };
 }
 
-impl<'a, R: Print> OutSink<'a, R> {
-    /// A sink over the output of this runtime.
-    pub fn new(rt: &'a R) -> OutSink<'a, R>
-        ensures { result ≡ record { taken = []; offered = []; stalled = false; failed = false; faults = 0 } }
+impl<W: Write + Drop> OutSink<W> {
+    /// A sink over this writer.
+    pub fn new(out: W) -> OutSink<W>
+        ensures { result ≡ record { held = W.contents out; taken = []; offered = []; stalled = false; failed = false; faults = 0 } }
     {
         OutSink {
-            rt,
+            out,
             taken: Log::new(),
             offered: Log::new(),
             stalled: false,
@@ -179,7 +179,7 @@ impl<'a, R: Print> OutSink<'a, R> {
     }
 }
 
-impl<R: Print> Sink for OutSink<'_, R> {
+impl<W: Write + Drop> Sink for OutSink<W> {
     ghost tells = { false };
 
     ghost written = { λ _. [] };
@@ -197,9 +197,20 @@ impl<R: Print> Sink for OutSink<'_, R> {
     ghost room = { λ _. 0 };
 
     /// Writes to the output and flushes it. Whatever keeps the bytes from being written or flushed is a fault.
-    fn write(&mut self, bytes: &[u8]) -> Result<usize, Failed> {
+    fn write(&mut self, bytes: &[u8]) -> Result<usize, Failed>
+        ensures within { IfOk result (λ n. n ≤ length bytes.now) }
+        ensures written { IfOk result (λ n. Appends self.old.held self.new.held (take n bytes.now)) }
+        ensures taken { IfOk result (λ n. self.new.taken ≡ self.old.taken ++ take n bytes.now) }
+        ensures nothing_taken { OnErr result (self.new.taken ≡ self.old.taken) }
+        ensures offered { self.new.offered ≡ self.old.offered ++ bytes.now ∷ [] }
+        ensures stalls { IsTrue self.new.stalled ↔ ((result ≡ Ok 0) × (0 < length bytes.now)) }
+        ensures noted { self.new.failed ≡ is_err result }
+        ensures faults_never_fall { self.old.faults ≤ self.new.faults }
+        ensures no_fault { OnOk result (self.new.faults ≡ self.old.faults) }
+        ensures failed { OnErr result (CountsFault self.old.faults self.new.faults) }
+    {
         self.offered.push(bytes);
-        match write_and_flush(&mut io::writer(self.rt), bytes) {
+        match write_and_flush(&mut self.out, bytes) {
             Ok(count) => {
                 self.taken.push(&bytes[..count]);
                 self.stalled = count == 0 && !bytes.is_empty();

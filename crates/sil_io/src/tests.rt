@@ -1,8 +1,8 @@
 use super::{
     FileShelf, MemShelf, MemSink, OutSink, ReadFault, Shelf, Sink, read_to_limit, write_whole,
 };
-use std::fs;
 use std::test::Fail;
+use std::{fs, io};
 
 const TEXT: &[u8] = b"mission 8760\n";
 
@@ -164,6 +164,6 @@ fn reads_a_real_file_and_refuses_a_missing_one(rt: HostRuntime) -> Result<(), Fa
 
 #[test]
 fn writes_to_the_standard_output(rt: HostRuntime) {
-    let mut sink = OutSink::new(&rt);
+    let mut sink = OutSink::new(io::writer(&rt));
     assert!(rt; write_whole(&mut sink, TEXT).is_ok());
 }
