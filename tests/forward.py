@@ -22,6 +22,8 @@ LAST_RUNG, MOST_MISSING = 12, 200
 SMALL_WORK, BLOCK_WORK = 16_384, 64
 # A loop of at most so many states may pass its phases by powers of the beat.
 POWERS_STATES = 64
+# In a phase of fewer beats no states are chosen; those into which a phase brings at most so much for each beat are left out.
+LEAST_BEATS, LEAST_MASS = 64, 2
 WORK, HIDDEN, DEEP, REPAIR = range(4)
 PFD_BANDS = ((10**17, "no SIL"), (10**16, "SIL 1"), (10**15, "SIL 2"), (10**14, "SIL 3"), (10**13, "SIL 4"))
 PFH_BANDS = tuple((lower // 10**4, name) for lower, name in PFD_BANDS)
@@ -69,6 +71,7 @@ class Ladder:
         numbers, low, self.rungs = series_weights(16)[0], 0, []
         work, longest = lumped.beats * lumped.state_count, max(beats for _, beats in lumped.phases)
         greatest = min(longest, work // BLOCK_WORK) if work >= SMALL_WORK else 0
+        self.is_made = greatest > 0
         for exponent in range(1, LAST_RUNG + 1):
             if greatest < 1 << exponent:
                 break
@@ -136,6 +139,14 @@ class Lumped:
 
     def event_count(self):
         return 4 * len(self.groups) + 3 * len(self.loop.subsystems)
+
+    def number_of(self, state):
+        """The number of a state among all: a digit for each group, that of the first one being the least."""
+        number = 0
+        for counts in reversed(state):
+            a, b, c = sum(counts[HIDDEN:]), sum(counts[DEEP:]), counts[REPAIR]
+            number = number * comb(sum(counts) + 3, 3) + comb(a + 2, 3) + comb(b + 1, 2) + c
+        return number
 
     def check_limits(self):
         tests = sum(len(range(s.test.first + i * s.test.stagger, self.loop.mission, s.test.every))
@@ -220,9 +231,10 @@ class Mission:
                 if target not in self.numbers:
                     self.numbers[target] = len(self.states)
                     self.states.append(target)
+        self.in_order = sorted(range(len(self.states)), key=lambda number: self.lumped.number_of(self.states[number]))
 
-    def chain(self, hours, beats):
-        """For each state the sources of one tick and their weights, as a getter and a list."""
+    def columns(self, hours, beats):
+        """For each state the sources of one tick and their weights, in two lists; the last is what stays."""
         columns = [([], []) for _ in self.states]
         for number, events in enumerate(self.events):
             taken = 0
@@ -234,8 +246,63 @@ class Mission:
                 taken += upward(share.numerator, share.denominator)
             columns[number][0].append(number)
             columns[number][1].append(max(0, ONE - taken))
-        # A getter of one place gives no list, so a second place of weight 0 stands beside it.
-        return [(itemgetter(*sources, 0), weights + [0]) for sources, weights in columns]
+        return columns
+
+    @staticmethod
+    def chain_over(columns, places):
+        """The tick over some states: for each of them a getter of its sources and their weights, and none for others."""
+        chain = []
+        for number, (sources, weights) in enumerate(columns):
+            pairs = [(source, weight) for source, weight in zip(sources, weights) if source in places] if number in places else []
+            # A getter of one place gives no list, so a second place of weight 0 stands beside it.
+            chain.append((itemgetter(*[source for source, _ in pairs], 0, 0), [weight for _, weight in pairs] + [0, 0]))
+        return chain
+
+    def chain(self, hours, beats):
+        return self.chain_over(self.columns(hours, beats), range(len(self.states)))
+
+    @staticmethod
+    def reached_from(vector, columns):
+        """The states that a vector can reach."""
+        places = {number for number, x in enumerate(vector) if x}
+        while True:
+            more = {number for number, (sources, weights) in enumerate(columns) if number not in places
+                    and any(weight and source in places for source, weight in zip(sources, weights))}
+            if not more:
+                return places
+            places |= more
+
+    def heavy(self, vector, columns, ticks, least):
+        """The states that hold more than `least` or into which so many ticks bring more, by an estimate."""
+        masses = list(vector)
+
+        def flow(number):
+            sources, weights = columns[number]
+            comes = sum(masses[source] * weight for source, weight in zip(sources, weights) if source != number)
+            return comes >> 24, weights[-1]
+
+        for _ in range(2):
+            for number in self.in_order:
+                comes, stays = flow(number)
+                held = min(ticks, ONE // max(1, ONE - stays))
+                masses[number] = min(ONE, vector[number] + (comes * held >> 24))
+        return {number for number, x in enumerate(vector) if x + (flow(number)[0] * ticks >> 24) > least}
+
+    def chosen(self, vector, columns, beats, reached):
+        """The states over which the blocks of a phase are tried, or `None`."""
+        if beats < LEAST_BEATS or not self.ladder.is_made:
+            return None
+        places = self.heavy(vector, columns, beats + beats // 4, LEAST_MASS * beats)
+        few, many = (sum(weight and source in those for number in those for source, weight in zip(*columns[number]))
+                     for those in (places, reached))
+        states, events = self.lumped.state_count, self.lumped.event_count()
+        both = 16 * (few + many) + 33 * (len(places) + len(reached))
+        return places if 8 * few <= 7 * many and both <= states * (16 * (events + 1) + 33) else None
+
+    def loses_little(self, before, after, dwell, beats):
+        loss = 2 * self.lumped.event_count() + 2 * self.lumped.state_count + 200
+        return 2 * (sum(before) - sum(after)) <= beats * loss and \
+            2 * (beats * sum(before) - sum(dwell)) <= beats * beats * loss
 
     def run_phase(self, vector, hours, beats):
         if self.lumped.passes_by_powers(beats):
@@ -261,7 +328,19 @@ class Mission:
         return pair
 
     def pass_blocks(self, vector, hours, beats):
-        chain, dwell = self.chain(hours, beats), [0] * len(vector)
+        """The blocks of a phase over chosen states, where little is lost so, and else over all that are reached."""
+        columns = self.columns(hours, beats)
+        reached = self.reached_from(vector, columns)
+        places = self.chosen(vector, columns, beats, reached)
+        if places is not None:
+            start = [x if number in places else 0 for number, x in enumerate(vector)]
+            after, dwell = self.pass_over(start, self.chain_over(columns, places), beats)
+            if self.loses_little(vector, after, dwell, beats):
+                return after, dwell
+        return self.pass_over(vector, self.chain_over(columns, reached), beats)
+
+    def pass_over(self, vector, chain, beats):
+        dwell = [0] * len(vector)
         blocks, left = self.ladder.blocks_of(beats)
         beat = (1, 0, self.ends)
         for _, low, numbers in blocks + [beat] * left:

@@ -172,6 +172,6 @@ module _ (is_below : (Values ℕ → Values ℕ) → Type 0) (loss : ℕ) (v : L
             (omega (arith, added k (omega arith)), omega (arith, added k (omega arith), div-mul-le_self (slice_index stays k) (2 ^ 48), small))
 
     -- the products of so many ticks
-    pub passed_products : (a b P size : ℕ) → b + P ≤ a + (low + length numbers) * P + 2 * length numbers * size → b ≤ a + block_products (2 ^ e) P size
+    pub passed_products : (a b P size : ℕ) → b + P + size ≤ a + (low + length numbers) * (P + 2 * size) → b ≤ a + block_products (2 ^ e) P size
     passed_products a b P size h =
-        omega (arith, h, mul-le-mul_right P held.few, mul-le-mul_right size held.few, mul-le-mul_left size held.few)
+        omega (arith, h, mul-le-mul_right P held.few, mul-le-mul_right size held.few)

@@ -16,6 +16,7 @@ block_loss beats loss size = most_missing * beats + beats * loss + size
 abbrev pub block_dwell_loss : ℕ → ℕ → ℕ → ℕ
 block_dwell_loss beats loss size = most_missing * (beats * beats) + beats * (beats + 1) / 2 * loss + size
 
--- the products of so many beats, where a tick makes so many: at most 16 ticks for each beat, and two for each place and tick
+-- the products of so many beats, where a tick makes so many: at most 16 ticks for each beat, and two at each place for each
+-- tick and for the vector at the end, but for one tail that is 0
 abbrev pub block_products : ℕ → ℕ → ℕ → ℕ
-block_products beats products size = 16 * beats * products + 2 * (16 * beats + 1) * size
+block_products beats products size = 16 * beats * products + (32 * beats + 1) * size

@@ -3,6 +3,7 @@
 ghost use Rattle.std.specs.Prelude.{◌≡◌, ℕ, ◌+◌, ◌*◌, ◌^◌, ◌<◌, ◌≤◌, length, sum, slice_index, All};
 ghost use Rattle.sil_model.specs.Series.{Values};
 ghost use Rattle.vector_laws.specs.Vectors.{IsMass};
+ghost use Rattle.vector_laws.specs.Laws.{IsSumWith};
 ghost use Rattle.block_laws.specs.Block.{IsTick, IsTicked, IsGathered, tail_at};
 ghost use Rattle.beat_ladder.specs.Powers.{power_of};
 ghost use Rattle.beat_ladder.specs.Rungs.{IsUsable};
@@ -52,6 +53,20 @@ fn early_ticks<T: Tick, L: Ledger>(
     }
 }
 
+/// Adds what was added up before the first number of a rung, times the tail that weighs it; nothing, where no tick was made.
+fn add_early<L: Ledger>(rung: &Rung, early: &[u128], stays: &mut [u128], steps: &mut Steps<L>)
+    requires size { length stays.old ≡ length early.now }
+    requires none { rung.now.low ≡ 0 → sum early.now ≡ 0 }
+    requires mass { sum early.now < 2 ^ 64 }
+    requires room { sum stays.old + rung.now.flat * sum early.now < 2 ^ 128 }
+    ensures added { IsSumWith rung.now.flat stays.old early.now stays.new }
+    ensures steps { steps.new ≤ steps.old + rung.now.low * length early.now }
+{
+    if rung.low > 0 {
+        add_products(stays, rung.flat, early, steps);
+    }
+}
+
 /// Sums the vectors before the ticks of a block and after the last, each times its number, and each times its tail.
 ///
 /// Those before the first number all have one tail, so that they are added before they are weighed.
@@ -76,12 +91,12 @@ pub fn gather<T: Tick, L: Ledger>(
     ensures ends { IsGathered (IsStep (T.step tick.now)) (T.loss tick.now) now.old ends.new (power_of rung.now.exponent) (rung.now.low + length rung.now.numbers.items) }
     ensures stays { IsGathered (IsStep (T.step tick.now)) (T.loss tick.now) now.old stays.new
         (tail_at (rung.now.low + length rung.now.numbers.items) (power_of rung.now.exponent)) (rung.now.low + length rung.now.numbers.items) }
-    ensures steps { steps.new + T.products tick.now ≤ steps.old + (rung.now.low + length rung.now.numbers.items) * T.products tick.now + 2 * length rung.now.numbers.items * T.size tick.now }
+    ensures steps { steps.new + T.products tick.now + T.size tick.now ≤ steps.old + (rung.now.low + length rung.now.numbers.items) * (T.products tick.now + 2 * T.size tick.now) }
 {
     early_ticks(tick, rung.low, now, next, early, steps);
     ends.fill(0);
     stays.fill(0);
-    add_products(stays, rung.flat, early, steps);
+    add_early(rung, early, stays, steps);
     let last = rung.numbers.len() - 1;
     for k in 0..last {
         add_products(ends, rung.numbers[k], now, steps);

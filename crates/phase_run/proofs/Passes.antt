@@ -145,16 +145,9 @@ module _ (B : (Values ℕ → Values ℕ) → Type 0) (loss size e : ℕ) (v aft
     grows = grows;
   }
 
-doubled : (n : ℕ) → 2 ^ suc n ≡ 2 * 2 ^ n
-doubled n = omega arith
-
 -- and makes no more products
-pub block_products_within : (products size e : ℕ) → 0 < e → block_products (2 ^ e) products size ≤ 2 ^ e * beat_products_in_blocks products size
-block_products_within products size e several =
-    let one : suc (e - 1) ≡ e = omega arith in
-    let twice : 2 ^ e ≡ 2 * 2 ^ (e - 1) = rw one at (doubled (e - 1)) in
-    let two : 2 ≤ 2 ^ e = omega (arith, twice, pow_pos (e - 1)) in
-    omega (arith, mul-le-mul_right size two)
+pub block_products_within : (products size e : ℕ) → block_products (2 ^ e) products size ≤ 2 ^ e * beat_products_in_blocks products size
+block_products_within products size e = omega (arith, mul-le-mul_right size (pow_pos e))
 
 -- as many as by order 16
 pub products_of_beat : (us : List Subsystem) (size : ℕ) → size ≤ states_of us → beat_products_in_blocks (tick_products us) size ≤ beat_products us 16

@@ -33,3 +33,8 @@ block_beat_loss us = beat_loss_in_blocks (tick_loss us) (states_of us)
 -- the products of each beat of a block, at most, where a tick makes so many
 abbrev pub beat_products_in_blocks : ℕ → ℕ → ℕ
 beat_products_in_blocks products size = 16 * products + 33 * size
+
+-- what a vector and its dwell, which began with nothing, lack after m beats is no more than these may lose
+pub record LosesLittle (m loss : ℕ) (before after dwelt : List ℕ) : Type 0 where
+  pub vector : sum before ≤ sum after + m * loss
+  pub dwell : m * sum before ≤ sum dwelt + m * m * loss

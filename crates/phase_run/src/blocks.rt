@@ -21,7 +21,6 @@ fn pass_rung<T: Tick, L: Ledger>(
     steps: &mut Steps<L>,
 )
     requires usable { IsUsable rung.now }
-    requires several { 0 < rung.now.exponent }
     requires size { T.size tick.now ≤ room.old }
     requires v { length v.old ≡ T.size tick.now }
     requires dwell { length dwell.old ≡ T.size tick.now }
@@ -36,7 +35,7 @@ fn pass_rung<T: Tick, L: Ledger>(
     }
 }
 
-/// Passes beats by the rungs of a ladder, the greatest first, and answers how many are left.
+/// Passes beats by the rungs of a ladder, the greatest first, and answers how many are left: none, if it has a rung.
 pub fn pass_blocks<T: Tick, L: Ledger>(
     ladder: &Ladder,
     room: &mut BlockRoom,
@@ -53,16 +52,21 @@ pub fn pass_blocks<T: Tick, L: Ledger>(
     requires room { (k : ℕ) → k < length dwell.old → slice_index dwell.old k + beats * 2 ^ 48 ≤ 1_000_000 * 2 ^ 48 }
     ensures size { room.new ≡ room.old }
     ensures left { result ≤ beats }
+    ensures all { 0 < ladder.now → result ≡ 0 }
     ensures passes { PassesBy (IsStep (T.step tick.now)) 16 (beat_loss_in_blocks (T.loss tick.now) (T.size tick.now)) (beats - result) v.old v.new dwell.old dwell.new }
     ensures steps { steps.new ≤ steps.old + (beats - result) * beat_products_in_blocks (T.products tick.now) (T.size tick.now) }
 {
     let mut left = beats;
-    // A block of one beat is no better than a beat.
     for exponent in (1..ladder.rungs()).rev() {
         let rung = ladder.rung(exponent);
         let beats_of_rung = u64::from(rung.beats());
         pass_rung(room, tick, rung, left / beats_of_rung, v, dwell, steps);
         left %= beats_of_rung;
     }
-    left
+    if ladder.rungs() == 0 {
+        return left;
+    }
+    let beat = ladder.rung(0);
+    pass_rung(room, tick, beat, left, v, dwell, steps);
+    0
 }

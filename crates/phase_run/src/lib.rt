@@ -1,12 +1,18 @@
 //! The beats of a phase, and the mean over it.
 //!
 //! [`run_phase`] pushes a vector through all beats of a phase, from one test hour to the next. [`run_phase_by_ladder`] does
-//! the same by blocks of many beats, over the places that the vector reaches: fewer and smaller ticks, and the same clauses.
-//! Neither takes memory; a [`PlaceRoom`] is made before.
+//! the same by blocks of many beats, over the places that the vector reaches or over those that come to hold enough: fewer
+//! and smaller ticks, and the same clauses. Neither takes memory; a [`PlaceRoom`] is made before.
+//!
+//! - `blocks`: the beats of a phase by the rungs of a ladder.
+//! - `over`: blocks over the places that are reached. `chosen`: over chosen ones, if little is lost elsewhere.
+//! - `places`: the room for both, and the choice.
 #![tactic(auto)]
 
 mod blocks;
 mod by_ladder;
+mod chosen;
+mod over;
 mod places;
 #[cfg(test)]
 mod tests;

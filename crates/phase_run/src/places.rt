@@ -1,13 +1,13 @@
 //! The room for the blocks of beats of a phase, over the places that hold mass.
 
-ghost use Rattle.std.specs.Prelude.{◌≡◌, ℕ, ◌+◌, ◌-◌, ◌*◌, ◌^◌, ◌<◌, ◌≤◌, length, slice_index, IfOk};
+ghost use Rattle.std.specs.Prelude.{◌≡◌, ℕ, ◌+◌, ◌-◌, ◌*◌, ◌<◌, ◌≤◌, length, slice_index, IfOk};
 ghost use Rattle.sil_model.specs.Sizes.{states_of};
 ghost use Rattle.vector_laws.specs.Vectors.{IsMass};
 ghost use Rattle.uniformise.specs.Beat.{beat_products};
-ghost use Rattle.reached_chain.specs.Reached.{IsWithin};
 ghost use Rattle.phase_run.specs.Passes.{Passes, block_beat_loss};
 
-use crate::blocks::pass_blocks;
+use crate::chosen::{events_of, pass_over_few};
+use crate::over::pass_over;
 use beat_ladder::{BlockRoom, Ladder};
 use product_chain::Chain;
 use reached_chain::ReachedChain;
@@ -16,10 +16,13 @@ use std::alloc::{AllocError, Global};
 use std::marker::Model;
 use std::sync::ledger::Ledger;
 
-/// Room for blocks of beats over the places that a vector reaches, by the chains of one loop. Contracts see it as the loop.
+/// Room for blocks of beats over the places that a vector reaches, or over chosen ones, by the chains of one loop. Contracts
+/// see it as the loop.
 #[derive(Drop)]
 pub struct PlaceRoom {
+    events: u64,
     reached: ReachedChain,
+    chosen: ReachedChain,
     blocks: BlockRoom,
     v: Vec<u128>,
     dwell: Vec<u128>,
@@ -44,20 +47,26 @@ impl PlaceRoom {
         requires size { size ≡ states_of chain.now.of.subsystems }
         ensures { IfOk result (λ r. r ≡ chain.now.of) }
     {
+        let events = events_of(l);
         let reached = ReachedChain::new(alloc, l, chain)?;
+        let chosen = ReachedChain::new(alloc, l, chain)?;
         let blocks = BlockRoom::new(alloc, size)?;
         let v = vec![in alloc; 0u128; size]?;
         let dwell = vec![in alloc; 0u128; size]?;
         Ok(PlaceRoom {
+            events,
             reached,
+            chosen,
             blocks,
             v,
             dwell,
         })
     }
 
-    /// Passes beats from a vector by the rungs of a ladder, over the places that it reaches, and answers how many are left.
-    /// The dwell begins with nothing.
+    /// Passes beats from a vector by the rungs of a ladder, and answers how many are left. The dwell begins with nothing.
+    ///
+    /// They go over the places that come to hold enough, where these are clearly fewer than those that the vector reaches. If
+    /// too much is lost so, they go over all of these.
     pub fn pass_blocks<L: Ledger>(
         &mut self,
         ladder: &Ladder,
@@ -79,6 +88,22 @@ impl PlaceRoom {
         ensures steps { steps.new ≤ steps.old + (beats - result) * beat_products chain.now.of.subsystems 16 }
     {
         self.reached.reach(chain, v);
+        if pass_over_few(
+            &mut self.chosen,
+            &self.reached,
+            chain,
+            ladder,
+            &mut self.blocks,
+            beats,
+            self.events,
+            &mut self.v,
+            &mut self.dwell,
+            v,
+            dwell,
+            steps,
+        ) {
+            return 0;
+        }
         pass_over(
             &self.reached,
             ladder,
@@ -91,42 +116,4 @@ impl PlaceRoom {
             steps,
         )
     }
-}
-
-/// Gathers a vector onto its places, passes beats over these, and scatters what becomes of it and of its dwell.
-#[allow(clippy::too_many_arguments)]
-fn pass_over<L: Ledger>(
-    reached: &ReachedChain,
-    ladder: &Ladder,
-    blocks: &mut BlockRoom,
-    beats: u64,
-    small: &mut [u128],
-    small_dwell: &mut [u128],
-    v: &mut [u128],
-    dwell: &mut [u128],
-    steps: &mut Steps<L>,
-) -> u64
-    requires blocks { states_of reached.now.chain.of.subsystems ≤ blocks.old }
-    requires small { length small.old ≡ states_of reached.now.chain.of.subsystems }
-    requires small_dwell { length small_dwell.old ≡ states_of reached.now.chain.of.subsystems }
-    requires v { length v.old ≡ states_of reached.now.chain.of.subsystems }
-    requires dwell { length dwell.old ≡ states_of reached.now.chain.of.subsystems }
-    requires mass { IsMass v.old }
-    requires within { IsWithin reached.now.places v.old }
-    requires none { (k : ℕ) → k < length dwell.old → slice_index dwell.old k ≡ 0 }
-    requires few { beats ≤ 1_000_000 }
-    ensures blocks { blocks.new ≡ blocks.old }
-    ensures left { result ≤ beats }
-    ensures passes { Passes reached.now.chain 16 (block_beat_loss reached.now.chain.of.subsystems) (beats - result) v.old v.new dwell.old dwell.new }
-    ensures steps { steps.new ≤ steps.old + (beats - result) * beat_products reached.now.chain.of.subsystems 16 }
-{
-    let size = reached.size();
-    let small = &mut small[..size];
-    let small_dwell = &mut small_dwell[..size];
-    reached.gather(v, small);
-    small_dwell.fill(0);
-    let left = pass_blocks(ladder, blocks, reached, beats, small, small_dwell, steps);
-    reached.scatter(small, v);
-    reached.scatter(small_dwell, dwell);
-    left
 }

@@ -1,4 +1,4 @@
--- The places that are found are closed, and their columns hold the weights between them.
+-- The places that are marked, closed if their marks are: their columns hold the weights between them.
 use Rattle.std.proofs.Common.{◌≡◌, ℕ, ◌*◌, ◌^◌, ◌<◌, ◌≤◌, inl, inr, List, length, get_or, refl, ap, ◌∙◌, arith}
 use Rattle.std.specs.Prelude.{Bool, true, false, if◌then◌else◌, ◌==◌}
 use Rattle.std.proofs.lemmas.Bool.{cases_lt, eq-eqb, eqb-true}
@@ -14,14 +14,14 @@ use Rattle.product_chain.specs.Held.{HoldWeights}
 use Rattle.product_chain.specs.Weights.{weight_of}
 use Rattle.reached_chain.specs.Marks.{is_marked, IsClosed, IsPassedOn}
 use Rattle.reached_chain.specs.Places.{ArePlaces, AreCompact, compacted}
-use Rattle.reached_chain.specs.Reached.{IsElsewhere, AreClosed, AreBetween}
+use Rattle.reached_chain.specs.Reached.{IsElsewhere, AreInOrder, AreClosed, AreBetween}
 use Rattle.reached_chain.proofs.Places.{sum-places, term-le}
 use Rattle.reached_chain.proofs.Listed.{unmarked}
 use Rattle.reached_chain.proofs.Columns.{given-none, spread_number, given-compacted, length-compacted, compacted-all}
 
 module _ (us : List Subsystem) (hours beats : ℕ) (marks : List Bool) (places ranks all_starts : List ℕ) (all : List Entry) (starts : List ℕ) (entries : List Entry)
     (held : HoldWeights us hours beats all_starts all) (long : length marks ≡ states_of us) (is : ArePlaces marks places ranks)
-    (closed : IsClosed (length marks) all_starts all marks) (compact : AreCompact marks ranks places all_starts all starts entries)
+    (compact : AreCompact marks ranks places all_starts all starts entries)
     (few : length entries ≤ length all) where
   abbrev n : ℕ
   n = states_of us
@@ -62,8 +62,9 @@ module _ (us : List Subsystem) (hours beats : ℕ) (marks : List Bool) (places r
   abbrev one_if : Bool → ℕ
   one_if b = if b then 1 else 0
 
-  pub closed-weights : (k j : ℕ) → k < m → j < n → IsElsewhere places j → w (p k) j ≡ 0
-  closed-weights k j h inside other =
+  -- marks that are closed give places that are
+  pub are_closed : IsClosed (length marks) all_starts all marks → AreClosed us hours beats places
+  are_closed closed k j h inside other =
       let u : ℕ → ℕ = λ i. one_if (is_marked marks i) in
       let none : given u (column j) ≡ 0 =
       given-none marks u (λ i e. ap one_if e) (column j) (closed.closed j (omega (arith, long)) (elsewhere-unmarked j inside other)) in
@@ -73,13 +74,8 @@ module _ (us : List Subsystem) (hours beats : ℕ) (marks : List Bool) (places r
       let whole_one : 1 * w (p k) j ≤ sum_below n (λ i. u i * w i j) = rw one at mine in
       omega (arith, whole_one, none, all_of)
 
-  pub are_closed : AreClosed us hours beats places
-  are_closed = record {
-    rising = is.rising;
-    below = below;
-    few = omega (arith, is.few, long);
-    closed = closed-weights;
-  }
+  pub are_in_order : AreInOrder us places
+  are_in_order = record { rising = is.rising; below = below; few = omega (arith, is.few, long) }
 
   -- what a column over the places is given
   given-between : (v : ℕ → ℕ) (k : ℕ) → k < m → given v (part starts entries k) ≡ sum_below m (λ l. v l * w (p l) (p k))

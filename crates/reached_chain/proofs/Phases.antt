@@ -12,12 +12,12 @@ use Rattle.model_laws.proofs.Beats.{beat-linear}
 use Rattle.lumped_laws.specs.ValueLists.{tick_list}
 use Rattle.lumped_laws.proofs.LinearLists.{linear_laws}
 use Rattle.product_chain.specs.Weights.{one_at}
-use Rattle.reached_chain.specs.Reached.{ReachedValue, AreClosed, at_places, spread, step_at, step_of_places}
-use Rattle.reached_chain.specs.Phases.{PlacesLaw, AreOne, ScatteredLaw}
+use Rattle.reached_chain.specs.Reached.{ReachedValue, AreInOrder, at_places, spread, step_at, step_of_places}
+use Rattle.reached_chain.specs.Phases.{PlacesLaw, AreTaken, AreOne, ScatteredLaw}
 use Rattle.vector_laws.specs.Vectors.{weigh}
 use Rattle.vector_laws.proofs.Weighing.{weigh-all-le}
 use Rattle.reached_chain.proofs.Places.{spread-le}
-use Rattle.reached_chain.proofs.Scattered.{weigh-gathered}
+use Rattle.reached_chain.proofs.Scattered.{weigh-gathered, weigh-taken}
 
 module _ (places : List ℕ) where
   abbrev at : Values ℕ → Values ℕ
@@ -92,39 +92,43 @@ module _ (places : List ℕ) where
         (beat-linear (step_at places T) step-linear N) (beat-less (step_at places T) T step-linear step-less N)
         (mean-less (step_at places T) T step-linear step-less N) n
 
-pub places_law : (r : ReachedValue) → AreClosed r.chain.of.subsystems r.chain.hours r.chain.beats r.places → PlacesLaw r
-places_law r closed =
+pub places_law : (r : ReachedValue) → AreInOrder r.chain.of.subsystems r.places → PlacesLaw r
+places_law r placed =
     let T : Values ℕ → Values ℕ = λ f. tick_list r.chain.of.subsystems (ratio r.chain.hours r.chain.beats) f in
     let linear : IsLinear T = (linear_laws r.chain.of.subsystems).tick (ratio r.chain.hours r.chain.beats) in
     record {
-      linear = step-linear r.places closed.rising T linear;
-      after = phase-less r.places closed.rising T linear;
-      during = dwell-less r.places closed.rising T linear;
+      linear = step-linear r.places placed.rising T linear;
+      after = phase-less r.places placed.rising T linear;
+      during = dwell-less r.places placed.rising T linear;
     }
 
 -- vectors over the places, and what they are scattered to
-module _ (r : ReachedValue) (closed : AreClosed r.chain.of.subsystems r.chain.hours r.chain.beats r.places) where
+module _ (r : ReachedValue) (placed : AreInOrder r.chain.of.subsystems r.places) where
   abbrev step : Values ℕ → Values ℕ
   step f = tick_list r.chain.of.subsystems (ratio r.chain.hours r.chain.beats) f
 
   one-weight : (wide small : List ℕ) → AreOne r wide small → (f : Values ℕ) → weigh small (at_places r.places f) ≡ weigh wide f
   one-weight wide small is f =
-      weigh-gathered r.places wide small closed.rising (λ k h. omega (arith, closed.below k h, is.size)) is.gathered is.within f
+      weigh-gathered r.places wide small placed.rising (λ k h. omega (arith, placed.below k h, is.taken.size)) is.taken.gathered is.within f
 
-  pub scattered_law : (order m : ℕ) (before small : List ℕ) → AreOne r before small → ScatteredLaw r order m before small
+  -- what is elsewhere is left out
+  taken-weight : (wide small : List ℕ) → AreTaken r wide small → (f : Values ℕ) → weigh small (at_places r.places f) ≤ℚ weigh wide f
+  taken-weight wide small is f = weigh-taken r.places wide small placed.rising (λ k h. omega (arith, placed.below k h, is.size)) is.gathered f
+
+  pub scattered_law : (order m : ℕ) (before small : List ℕ) → AreTaken r before small → ScatteredLaw r order m before small
   scattered_law order m before small is = record {
     after = λ end small_end one known. record {
       weighed = λ T linear e N high f.
           let g : Values ℕ = times (beat_of step N) m f in
           rw (e) (le_trans _ _ _ (le_of_same _ _ (sym (one-weight end small_end one f)))
           (le_trans _ _ _ (known.weighed (step_of_places r) law.linear refl N high (at_places r.places f))
-          (le_trans _ _ _ (weigh-all-le small _ _ (law.after N m f)) (le_of_same _ _ (one-weight before small is g)))));
+          (le_trans _ _ _ (weigh-all-le small _ _ (law.after N m f)) (taken-weight before small is g))));
     };
     dwelt = λ old small_old new small_new one other known. record {
       weighed = λ T linear e N high f.
           let g : Values ℕ = means_of (beat_of step N) (mean_of step N) m f in
           let most : weigh small (means_of (beat_of (step_of_places r) N) (mean_of (step_of_places r) N) m (at_places r.places f)) ≤ℚ weigh before g =
-          le_trans _ _ _ (weigh-all-le small _ _ (law.during N m f)) (le_of_same _ _ (one-weight before small is g)) in
+          le_trans _ _ _ (weigh-all-le small _ _ (law.during N m f)) (taken-weight before small is g) in
           rw (e) (le_trans _ _ _ (le_of_same _ _ (sym (one-weight new small_new other f)))
           (le_trans _ _ _ (known.weighed (step_of_places r) law.linear refl N high (at_places r.places f))
           (add-le-add _ _ _ _ (le_of_same _ _ (one-weight old small_old one f)) most)));
@@ -132,4 +136,4 @@ module _ (r : ReachedValue) (closed : AreClosed r.chain.of.subsystems r.chain.ho
   }
     where
       law : PlacesLaw r
-      law = places_law r closed
+      law = places_law r placed

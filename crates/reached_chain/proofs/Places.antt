@@ -5,7 +5,7 @@ use Rattle.std.proofs.lemmas.Bool.{cases_lt, eqb-true, ne_eqb}
 use Rattle.sil_fraction.specs.Fraction.{Fraction, ◌+ℚ◌, ◌*ℚ◌, ◌≤ℚ◌, whole}
 use Rattle.sil_fraction.specs.Sum.{total_below, sum_below}
 use Rattle.sil_fraction.proofs.Laws.{zero-le, zero-add, le_trans, le_of_same, le-whole}
-use Rattle.sil_fraction.proofs.Sums.{add-zero, mul-one, mul-zero, below-same, below-constant, whole-sum, sum-add}
+use Rattle.sil_fraction.proofs.Sums.{add-le-add, le-add_right, add-zero, mul-one, mul-zero, below-same, below-constant, whole-sum, sum-add}
 use Rattle.vector_laws.proofs.Masses.{sum-zeros}
 use Rattle.product_chain.specs.Weights.{one_at}
 
@@ -45,7 +45,30 @@ module _ (p : ℕ → ℕ) where
         rw e (ap (λ x. x +ℚ h n) (below-places h n m (λ k l a b. rising k l a (omega arith)) before inner))
   ]
 
+  -- a sum over the places is no greater than one over all
+  pub below-places-le : (h : ℕ → Fraction) (n m : ℕ) → Rising m → ((k : ℕ) → k < m → p k < n) → total_below m (λ k. h (p k)) ≤ℚ total_below n h
+  below-places-le h n zero rising below = zero-le (total_below n h)
+  below-places-le h zero (suc m) rising below = absurd (omega (arith, below m (omega arith)))
+  below-places-le h (suc n) (suc m) rising below = elim (cases_lt (p m) n) [
+    | inl q ↦
+        let all : (k : ℕ) → k < suc m → p k < n = λ k a. elim (cases_lt k m) [
+          | inl b ↦ omega (arith, rising k m b (omega arith))
+          | inr b ↦ let e : k ≡ m = omega arith in rw e q
+        ] in
+        le_trans _ _ _ (below-places-le h n (suc m) rising all) (le-add_right (total_below n h) (h n))
+    | inr q ↦
+        let e : p m ≡ n = omega (arith, below m (omega arith)) in
+        let before : (k : ℕ) → k < m → p k < n = λ k a. omega (arith, rising k m a (omega arith), e) in
+        add-le-add _ _ _ _ (below-places-le h n m (λ k l a b. rising k l a (omega arith)) before) (le_of_same _ _ (ap h e))
+  ]
+
   -- the same of whole numbers
+  pub sum-places-le : (h : ℕ → ℕ) (n m : ℕ) → Rising m → ((k : ℕ) → k < m → p k < n) → sum_below m (λ k. h (p k)) ≤ sum_below n h
+  sum-places-le h n m rising below =
+      le-whole _ _ (le_trans _ _ _ (le_of_same _ _ (whole-sum m (λ k. h (p k))))
+      (le_trans _ _ _ (below-places-le (λ i. whole (h i)) n m rising below) (le_of_same _ _ (sym (whole-sum n h)))))
+
+  -- and equal where there is nothing elsewhere
   pub sum-places : (h : ℕ → ℕ) (n m : ℕ) → Rising m → ((k : ℕ) → k < m → p k < n) → ((i : ℕ) → i < n → Elsewhere m i → h i ≡ 0)
       → sum_below n h ≡ sum_below m (λ k. h (p k))
   sum-places h n m rising below none =

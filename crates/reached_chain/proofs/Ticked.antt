@@ -1,6 +1,6 @@
 -- A tick over the places: it encloses, it keeps no more than there was, and it loses little.
-use Rattle.std.proofs.Common.{◌≡◌, ℕ, ◌+◌, ◌*◌, ◌/◌, ◌<◌, ◌≤◌, List, length, get_or, sym, ap, ◌∙◌, arith}
-use Rattle.std.specs.Prelude.{sum}
+use Rattle.std.proofs.Common.{◌≡◌, ℕ, ◌+◌, ◌*◌, ◌/◌, ◌^◌, ◌<◌, ◌≤◌, List, length, get_or, refl, sym, ap, ◌∙◌, arith}
+use Rattle.std.specs.Prelude.{Bool, true, false, if◌then◌else◌, sum}
 use Rattle.std.proofs.Math.Nat.{div-mul-le_self, lt-div-mul-add, mul-le-mul_left, le_of_mul-le-mul_right}
 use Rattle.sil_fraction.specs.Fraction.{Fraction, ◌*ℚ◌, ◌≤ℚ◌, whole, ratio}
 use Rattle.sil_fraction.specs.Sum.{total_below, sum_below}
@@ -23,17 +23,17 @@ use Rattle.product_chain.specs.Steps.{scale}
 use Rattle.product_chain.specs.Weights.{IsRow, one_at, weight_of}
 use Rattle.product_chain.proofs.Weights.{row}
 use Rattle.reached_chain.specs.Reached.{IsReached, spread, step_at}
-use Rattle.reached_chain.proofs.Places.{sum-places, sum-swap}
+use Rattle.reached_chain.proofs.Places.{sum-places, sum-places-le, sum-swap}
 
 -- what a tick leaves of a vector over the places
-pub record IsTickAt (c : ChainValue) (places from to : List ℕ) : Type 0 where
+pub record IsTickAt (c : ChainValue) (places : List ℕ) (closed : Bool) (from to : List ℕ) : Type 0 where
   pub floors : (k : ℕ) → k < length places
       → get_or to k 0 ≡ sum_below (length places) (λ l. get_or from l 0 * weight_of c.of.subsystems c.hours c.beats (get_or places l 0) (get_or places k 0)) / scale
   pub encloses : (g : Values ℕ) → weigh to g ≤ℚ weigh from (step_at places (tick_list c.of.subsystems (ratio c.hours c.beats)) g)
   pub kept : sum to ≤ sum from
-  pub lack : sum from ≤ sum to + events_number c.of.subsystems + length places
+  pub lack : sum from ≤ sum to + (if closed then events_number c.of.subsystems + length places else 2 ^ 48)
 
-module _ (c : ChainValue) (places starts : List ℕ) (entries : List Entry) (r : IsReached c places starts entries) where
+module _ (c : ChainValue) (places : List ℕ) (closed : Bool) (starts : List ℕ) (entries : List Entry) (r : IsReached c places closed starts entries) where
   abbrev us : List Subsystem
   us = c.of.subsystems
 
@@ -59,7 +59,7 @@ module _ (c : ChainValue) (places starts : List ℕ) (entries : List Entry) (r :
   column k = part starts entries k
 
   row-of : (l : ℕ) → l < m → IsRow us c.hours c.beats (p l)
-  row-of l h = row us r.valid.subsystems c.hours c.beats r.timed.enough (p l) (r.closed.below l h)
+  row-of l h = row us r.valid.subsystems c.hours c.beats r.timed.enough (p l) (r.placed.below l h)
 
   linear : IsLinear T
   linear = (linear_laws us).tick (ratio c.hours c.beats)
@@ -78,20 +78,20 @@ module _ (c : ChainValue) (places starts : List ℕ) (entries : List Entry) (r :
       ap (λ x. x *ℚ whole scale) (step-sum g l) ∙ mul_comm _ (whole scale) ∙ mul-below m (whole scale) (λ k. g k *ℚ T (one_at (p k)) (p l))
       ∙ below-same m _ _ (λ k a. mul_comm (whole scale) _ ∙ mul_assoc (g k) (T (one_at (p k)) (p l)) (whole scale)) in
       rw right (below-le m _ _ (λ k a. le_trans _ _ _ (le_of_same _ _ (mul_comm (whole (w l k)) (g k)))
-      (mul-le-left (g k) _ _ ((row-of l h).below (p k) (r.closed.below k a)))))
+      (mul-le-left (g k) _ _ ((row-of l h).below (p k) (r.placed.below k a)))))
 
-  -- the sum of a row is that over all count vectors
+  -- the sum of a row is no more than that over all count vectors, and no less where the places are closed
   abbrev row-sum : ℕ → ℕ
   row-sum l = sum_below m (w l)
 
-  row-whole : (l : ℕ) → l < m → row-sum l ≡ sum_below n (weight_of us c.hours c.beats (p l))
-  row-whole l h = sym (sum-places p (weight_of us c.hours c.beats (p l)) n m r.closed.rising r.closed.below (λ j a o. r.closed.closed l j h a o))
-
   row-within : (l : ℕ) → l < m → row-sum l ≤ scale
-  row-within l h = omega (arith, row-whole l h, (row-of l h).most)
+  row-within l h = omega (arith, sum-places-le p (weight_of us c.hours c.beats (p l)) n m r.placed.rising r.placed.below, (row-of l h).most)
 
-  row-lacks : (l : ℕ) → l < m → scale ≤ row-sum l + E
-  row-lacks l h = omega (arith, row-whole l h, (row-of l h).least)
+  row-lacks : closed ≡ true → (l : ℕ) → l < m → scale ≤ row-sum l + E
+  row-lacks shut l h =
+      let all : row-sum l ≡ sum_below n (weight_of us c.hours c.beats (p l)) =
+      sym (sum-places p (weight_of us c.hours c.beats (p l)) n m r.placed.rising r.placed.below (λ j a o. r.shut shut l j h a o)) in
+      omega (arith, all, (row-of l h).least)
 
   module _ (v to : ℕ → ℕ) (floors : (k : ℕ) → k < m → to k ≡ given v (column k) / scale) where
     abbrev S : ℕ → ℕ
@@ -147,11 +147,11 @@ module _ (c : ChainValue) (places starts : List ℕ) (entries : List Entry) (r :
         sum-le m _ _ (λ l h. omega (arith, mul-le-mul_left (v l) (row-within l h))) in
         le_of_mul-le-mul_right {k = scale} (omega (arith, a, b, sums-same, sum-mul m scale to, sum-mul m scale v)) (omega arith)
 
-    pub lost-sum : sum_below m v ≤ scale → sum_below m v ≤ sum_below m to + E + m
-    lost-sum small =
+    pub lost-sum : closed ≡ true → sum_below m v ≤ scale → sum_below m v ≤ sum_below m to + E + m
+    lost-sum shut small =
         let a : sum_below m S ≤ sum_below m (λ k. scale * to k + scale) = sum-le m _ _ (λ k h. omega (arith, floor-gt k h)) in
         let b : sum_below m (λ l. scale * v l) ≤ sum_below m (λ l. v l * row-sum l + E * v l) =
-        sum-le m _ _ (λ l h. omega (arith, mul-le-mul_left (v l) (row-lacks l h))) in
+        sum-le m _ _ (λ l h. omega (arith, mul-le-mul_left (v l) (row-lacks shut l h))) in
         let d : E * sum_below m v ≤ E * scale = mul-le-mul_left E small in
         le_of_mul-le-mul_right {k = scale}
         (omega (
@@ -169,7 +169,7 @@ module _ (c : ChainValue) (places starts : List ℕ) (entries : List Entry) (r :
         )) (omega arith)
 
   pub ticked : (from to : List ℕ) → length from ≡ m → length to ≡ m → sum from ≤ scale
-      → ((k : ℕ) → k < m → get_or to k 0 ≡ given (λ i. get_or from i 0) (column k) / scale) → IsTickAt c places from to
+      → ((k : ℕ) → k < m → get_or to k 0 ≡ given (λ i. get_or from i 0) (column k) / scale) → IsTickAt c places closed from to
   ticked from to from_size to_size small floors =
       let old : ℕ → ℕ = λ i. get_or from i 0 in
       let new : ℕ → ℕ = λ k. get_or to k 0 in
@@ -178,5 +178,9 @@ module _ (c : ChainValue) (places starts : List ℕ) (entries : List Entry) (r :
         floors = floor-is old new floors;
         encloses = λ g. rw (weigh-below to g, weigh-below from (step_at places T g), from_size, to_size) (encloses old new floors g);
         kept = rw (sum_of to, sum_of from, from_size, to_size) (kept-sum old new floors);
-        lack = rw (sum_of to, sum_of from, from_size, to_size) (lost-sum old new floors few);
+        lack = lacks closed refl small (λ shut. rw (sum_of to, sum_of from, from_size, to_size) (lost-sum old new floors shut few));
       }
+    where
+      lacks : (b : Bool) → closed ≡ b → sum from ≤ scale → (closed ≡ true → sum from ≤ sum to + E + m) → sum from ≤ sum to + (if b then E + m else 2 ^ 48)
+      lacks true e few known = omega (arith, known e)
+      lacks false e few known = omega (arith, few)

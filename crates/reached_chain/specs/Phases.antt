@@ -18,10 +18,14 @@ module _ (r : ReachedValue) where
         ≤ℚ at_places r.places (means_of (beat_list r.chain.of.subsystems N (ratio r.chain.hours r.chain.beats))
         (mean_list r.chain.of.subsystems N (ratio r.chain.hours r.chain.beats)) m f) k
 
-  -- a vector that holds nothing elsewhere, and its numbers at the places
-  pub record AreOne (wide small : List ℕ) : Type 0 where
+  -- a vector, and its numbers at the places
+  pub record AreTaken (wide small : List ℕ) : Type 0 where
     pub size : length wide ≡ states_of r.chain.of.subsystems
     pub gathered : IsGatheredFrom r.places wide small
+
+  -- and the vector holds nothing elsewhere
+  pub record AreOne (wide small : List ℕ) : Type 0 where
+    pub taken : AreTaken wide small
     pub within : IsWithin r.places wide
 
   -- the step of the places, and that of all values

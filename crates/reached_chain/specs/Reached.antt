@@ -1,5 +1,5 @@
 -- The part of a chain at some places alone, and vectors and value lists over the places.
-use Rattle.std.specs.Prelude.{◌≡◌, ℕ, Bool, true, ◌+◌, ◌*◌, ◌<◌, ◌≤◌, List, length, slice_index}
+use Rattle.std.specs.Prelude.{◌≡◌, ℕ, Bool, true, ◌+◌, ◌*◌, ◌^◌, ◌<◌, ◌≤◌, List, length, slice_index, if◌then◌else◌}
 use Rattle.sil_fraction.specs.Fraction.{◌*ℚ◌, ratio}
 use Rattle.sil_fraction.specs.Sum.{total_below, sum_below}
 use Rattle.sil_model.specs.LoopValue.{IsValid}
@@ -12,10 +12,12 @@ use Rattle.product_chain.specs.Columns.{AreWeighted, part, given}
 use Rattle.product_chain.specs.Kept.{ChainValue, IsTimed, events_number}
 use Rattle.product_chain.specs.Weights.{one_at, weight_of}
 
--- a chain with the places that are reached, as contracts see it
+-- a chain with some places, and how many entries lead between them; whether they are closed, so that no weight leads elsewhere
 pub record ReachedValue : Type 0 where
   pub chain : ChainValue
   pub places : List ℕ
+  pub entries : ℕ
+  pub closed : Bool
 
 module _ (places : List ℕ) where
   -- a number that is none of the places
@@ -43,12 +45,15 @@ module _ (places : List ℕ) where
   unfoldable pub step_at : (Values ℕ → Values ℕ) → Values ℕ → Values ℕ
   step_at T g = at_places (T (spread g))
 
--- places in their order, from which no weight leads elsewhere
-pub record AreClosed (us : List Subsystem) (hours beats : ℕ) (places : List ℕ) : Type 0 where
+-- numbers of count vectors, in their order
+pub record AreInOrder (us : List Subsystem) (places : List ℕ) : Type 0 where
   pub rising : (k l : ℕ) → k < l → l < length places → slice_index places k < slice_index places l
   pub below : (k : ℕ) → k < length places → slice_index places k < states_of us
   pub few : length places ≤ states_of us
-  pub closed : (k j : ℕ) → k < length places → j < states_of us → IsElsewhere places j → weight_of us hours beats (slice_index places k) j ≡ 0
+
+-- no weight leads from one of them elsewhere
+abbrev pub AreClosed : List Subsystem → ℕ → ℕ → List ℕ → Type 0
+AreClosed us hours beats places = (k j : ℕ) → k < length places → j < states_of us → IsElsewhere places j → weight_of us hours beats (slice_index places k) j ≡ 0
 
 -- no place is there without need: what the numbers of the vector have and weights pass on, all places have
 abbrev pub AreNoMore : List Subsystem → ℕ → ℕ → List ℕ → List ℕ → Type 0
@@ -65,19 +70,25 @@ pub record AreBetween (us : List Subsystem) (hours beats : ℕ) (places starts :
   pub number : length entries ≤ states_of us * (events_number us + 1)
 
 -- all of it, with its room
-pub record IsReached (c : ChainValue) (places starts : List ℕ) (entries : List Entry) : Type 0 where
+pub record IsReached (c : ChainValue) (places : List ℕ) (closed : Bool) (starts : List ℕ) (entries : List Entry) : Type 0 where
   pub valid : IsValid c.of
   pub few : states_of c.of.subsystems ≤ most_states
   pub timed : IsTimed c.of.subsystems c.hours c.beats
-  pub closed : AreClosed c.of.subsystems c.hours c.beats places
+  pub placed : AreInOrder c.of.subsystems places
+  pub shut : closed ≡ true → AreClosed c.of.subsystems c.hours c.beats places
   pub between : AreBetween c.of.subsystems c.hours c.beats places starts entries
 
-pub record HasRoom (c : ChainValue) (marks ranks places starts entries : ℕ) : Type 0 where
+pub record HasRoom (c : ChainValue) (masses marks ranks places starts entries : ℕ) : Type 0 where
+  pub masses_room : masses ≡ states_of c.of.subsystems
   pub marks_room : marks ≡ states_of c.of.subsystems
   pub ranks_room : ranks ≡ states_of c.of.subsystems
   pub places_room : states_of c.of.subsystems ≤ places
   pub starts_room : states_of c.of.subsystems + 1 ≤ starts
   pub entries_room : states_of c.of.subsystems * (events_number c.of.subsystems + 1) ≤ entries
+
+-- what a tick over places loses, at most: all, where weights may lead elsewhere
+abbrev pub tick_loss_of : ReachedValue → ℕ
+tick_loss_of r = if r.closed then events_number r.chain.of.subsystems + length r.places else 2 ^ 48
 
 -- the step of values that a tick of the places stays below
 abbrev pub step_of_places : ReachedValue → Values ℕ → Values ℕ

@@ -1,6 +1,6 @@
 //! The chain over the places that are reached.
 
-ghost use Rattle.std.specs.Prelude.{◌≡◌, ℕ, [], ◌+◌, ◌*◌, ◌/◌, ◌^◌, ◌<◌, ◌≤◌, length, sum, slice_index, IfOk};
+ghost use Rattle.std.specs.Prelude.{◌≡◌, ℕ, true, false, [], ◌+◌, ◌*◌, ◌/◌, ◌^◌, ◌<◌, ◌≤◌, length, sum, slice_index, IfOk};
 ghost use Rattle.sil_fraction.specs.Fraction.{◌≤ℚ◌};
 ghost use Rattle.sil_fraction.specs.Sum.{sum_below};
 ghost use Rattle.sil_model.specs.Series.{Values};
@@ -8,10 +8,11 @@ ghost use Rattle.sil_model.specs.Sizes.{states_of};
 ghost use Rattle.vector_laws.specs.Vectors.{weigh};
 ghost use Rattle.product_chain.specs.Kept.{events_number};
 ghost use Rattle.product_chain.specs.Weights.{weight_of};
-ghost use Rattle.reached_chain.specs.Reached.{AreClosed, AreNoMore, IsWithin, IsGatheredFrom, at_places, step_of_places};
+ghost use Rattle.reached_chain.specs.Reached.{AreInOrder, AreNoMore, IsWithin, IsGatheredFrom, at_places, step_of_places, tick_loss_of};
 
 use crate::closure::{mark_reached, mark_support};
 use crate::compact::{compact, list_places};
+use crate::estimate::mark_heavy;
 use beat_ladder::Tick;
 use common_cause::events;
 use product_chain::{Chain, Entry, gather};
@@ -21,13 +22,16 @@ use std::marker::Model;
 use std::snapshot::Snapshot;
 use std::sync::ledger::Ledger;
 
-/// A chain at the count vectors that a vector can reach, its places.
+/// A chain at some count vectors, its places: those that a vector can reach, or those that come to hold enough.
 ///
-/// Contracts see it as the chain and the places, in their order. A vector over the places has a number for each of them.
+/// Contracts see it as the chain, the places in their order, how many entries lead between them, and whether they are closed.
+/// A vector over the places has a number for each of them.
 #[derive(Drop)]
 pub struct ReachedChain {
     // The chain, for proofs alone: it has no bytes.
     of: Snapshot<Chain>,
+    closed: bool,
+    masses: Vec<u64>,
     marks: Vec<bool>,
     ranks: Vec<u32>,
     places: Vec<u32>,
@@ -43,20 +47,21 @@ impl Model for ReachedChain {
     ghost use Rattle.std.specs.Prelude.{vec_capacity, vec_len};
     ghost use Rattle.reached_chain.specs.Reached.{IsReached, HasRoom};
 
-    ghost view = { λ r. record { chain = r.of.value; places = r.places.items } };
+    ghost view = { λ r. record { chain = r.of.value; places = r.places.items; entries = vec_len r.entries; closed = r.closed } };
 
-    ghost invariant = { λ r. IsReached r.of.value r.places.items r.starts.items r.entries.items × HasRoom r.of.value (vec_len r.marks) (vec_len r.ranks) (vec_capacity r.places) (vec_capacity r.starts) (vec_capacity r.entries) };
+    ghost invariant = { λ r. IsReached r.of.value r.places.items r.closed r.starts.items r.entries.items × HasRoom r.of.value (vec_len r.masses) (vec_len r.marks) (vec_len r.ranks) (vec_capacity r.places) (vec_capacity r.starts) (vec_capacity r.entries) };
 }
 
 impl ReachedChain {
     /// Room for what vectors reach by the chains of a loop. There is no place in it yet.
     pub fn new(alloc: Global, l: &Loop, chain: &Chain) -> Result<ReachedChain, AllocError>
         requires same { l.now ≡ chain.now.of }
-        ensures { IfOk result (λ r. r ≡ record { chain = chain.now; places = [] }) }
+        ensures { IfOk result (λ r. r ≡ record { chain = chain.now; places = []; entries = 0; closed = true }) }
     {
         let columns = chain.columns();
         let size = columns.starts.len() - 1;
         let events = events(alloc, l)?;
+        let masses = vec![in alloc; 0u64; size]?;
         let marks = vec![in alloc; false; size]?;
         let ranks = vec![in alloc; 0u32; size]?;
         let places = Vec::with_capacity(alloc, size)?;
@@ -65,6 +70,8 @@ impl ReachedChain {
         let entries = Vec::with_capacity(alloc, size * (events.len() + 1))?;
         Ok(ReachedChain {
             of: Snapshot::of(chain),
+            closed: true,
+            masses,
             marks,
             ranks,
             places,
@@ -78,6 +85,7 @@ impl ReachedChain {
         requires same { self.old.chain.of ≡ chain.now.of }
         requires v { length v.now ≡ states_of chain.now.of.subsystems }
         ensures chain { self.new.chain ≡ chain.now }
+        ensures closed { self.new.closed ≡ true }
         ensures support { IsWithin self.new.places v.now }
         ensures least { AreNoMore chain.now.of.subsystems chain.now.hours chain.now.beats v.now self.new.places }
     {
@@ -99,21 +107,68 @@ impl ReachedChain {
             &mut self.starts,
         );
         self.of = Snapshot::of(chain);
+        self.closed = true;
+    }
+
+    /// Chooses the places that hold more than `least` in a phase of so many ticks or into which it brings more, by an estimate,
+    /// in units of 2^-48, and makes it the chain over these. Other count vectors may be reached by what is lost then.
+    pub fn choose(&mut self, chain: &Chain, v: &[u128], ticks: u64, least: u64)
+        requires same { self.old.chain.of ≡ chain.now.of }
+        requires v { length v.now ≡ states_of chain.now.of.subsystems }
+        ensures chain { self.new.chain ≡ chain.now }
+        ensures open { self.new.closed ≡ false }
+    {
+        let columns = chain.columns();
+        mark_heavy(
+            columns.entries,
+            columns.starts,
+            v,
+            ticks,
+            least,
+            self.masses.as_mut_slice(),
+            self.marks.as_mut_slice(),
+        );
+        list_places(
+            self.marks.as_slice(),
+            &mut self.places,
+            self.ranks.as_mut_slice(),
+        );
+        compact(
+            columns.entries,
+            columns.starts,
+            self.marks.as_slice(),
+            self.ranks.as_slice(),
+            self.places.as_slice(),
+            &mut self.entries,
+            &mut self.starts,
+        );
+        self.of = Snapshot::of(chain);
+        self.closed = false;
     }
 
     /// How many places there are.
     pub fn size(&self) -> usize
         ensures size { result ≡ length self.now.places }
-        ensures closed { AreClosed self.now.chain.of.subsystems self.now.chain.hours self.now.chain.beats self.now.places }
+        ensures placed { AreInOrder self.now.chain.of.subsystems self.now.places }
     {
         self.places.len()
     }
 
-    /// Takes the numbers of a vector at the places. A vector that holds nothing elsewhere keeps its mass and its weight.
+    /// How many entries lead between the places: the products of a tick.
+    pub fn products(&self) -> usize
+        ensures value { result ≡ self.now.entries }
+        ensures few { result ≤ states_of self.now.chain.of.subsystems * (events_number self.now.chain.of.subsystems + 1) }
+    {
+        self.entries.len()
+    }
+
+    /// Takes the numbers of a vector at the places, which weigh no more than the vector. One that holds nothing elsewhere keeps
+    /// its mass and its weight.
     pub fn gather(&self, v: &[u128], small: &mut [u128])
         requires v { length v.now ≡ states_of self.now.chain.of.subsystems }
         requires small { length small.old ≡ length self.now.places }
         ensures gathered { IsGatheredFrom self.now.places v.now small.new }
+        ensures most { sum small.new ≤ sum v.now }
         ensures weighed { IsWithin self.now.places v.now → (f : Values ℕ) → weigh small.new (at_places self.now.places f) ≡ weigh v.now f }
         ensures kept { IsWithin self.now.places v.now → sum small.new ≡ sum v.now }
     {
@@ -137,7 +192,7 @@ impl ReachedChain {
     /// once.
     ///
     /// By every value list over the places the vector then weighs at most what the list after a step weighed before. It loses
-    /// at most what a tick over all count vectors loses.
+    /// at most what a tick over all count vectors loses, where the places are closed.
     pub fn tick<L: Ledger>(&self, from: &[u128], to: &mut [u128], steps: &mut Steps<L>)
         requires from { length from.now ≡ length self.now.places }
         requires to { length to.old ≡ length self.now.places }
@@ -145,8 +200,8 @@ impl ReachedChain {
         ensures floors { (k : ℕ) → k < length self.now.places → slice_index to.new k ≡ sum_below (length self.now.places) (λ l. slice_index from.now l * weight_of self.now.chain.of.subsystems self.now.chain.hours self.now.chain.beats (slice_index self.now.places l) (slice_index self.now.places k)) / 2 ^ 48 }
         ensures encloses { (g : Values ℕ) → weigh to.new g ≤ℚ weigh from.now (step_of_places self.now g) }
         ensures kept { sum to.new ≤ sum from.now }
-        ensures lack { sum from.now ≤ sum to.new + events_number self.now.chain.of.subsystems + length self.now.places }
-        ensures steps { steps.new ≤ steps.old + states_of self.now.chain.of.subsystems * (events_number self.now.chain.of.subsystems + 1) }
+        ensures lack { sum from.now ≤ sum to.new + tick_loss_of self.now }
+        ensures steps { steps.new ≤ steps.old + self.now.entries }
     {
         gather(
             self.entries.as_slice(),
@@ -159,18 +214,16 @@ impl ReachedChain {
 }
 
 impl Tick for ReachedChain {
-    ghost use Rattle.std.specs.Prelude.{◌+◌, ◌*◌, length};
-    ghost use Rattle.sil_model.specs.Sizes.{states_of};
-    ghost use Rattle.product_chain.specs.Kept.{events_number};
-    ghost use Rattle.reached_chain.specs.Reached.{step_of_places};
+    ghost use Rattle.std.specs.Prelude.{length};
+    ghost use Rattle.reached_chain.specs.Reached.{step_of_places, tick_loss_of};
 
     ghost size = { λ r. length r.places };
 
     ghost step = { step_of_places };
 
-    ghost loss = { λ r. events_number r.chain.of.subsystems + length r.places };
+    ghost loss = { tick_loss_of };
 
-    ghost products = { λ r. states_of r.chain.of.subsystems * (events_number r.chain.of.subsystems + 1) };
+    ghost products = { λ r. r.entries };
 
     fn tick<L: Ledger>(&self, from: &[u128], to: &mut [u128], steps: &mut Steps<L>) {
         ReachedChain::tick(self, from, to, steps);

@@ -1,4 +1,4 @@
-use Rattle.std.proofs.Common.{◌≡◌, ℕ, ◌+◌, ◌-◌, ◌*◌, ◌^◌, ◌<◌, ◌≤◌, List, length, sum, slice_index, ◌∙◌, arith}
+use Rattle.std.proofs.Common.{◌≡◌, ℕ, ◌+◌, ◌-◌, ◌*◌, ◌^◌, ◌<◌, ◌≤◌, List, length, sum, slice_index, ap, ◌∙◌, arith}
 use Rattle.std.proofs.Math.Nat.{mul-le-mul_left, mul-le-mul_right}
 use Rattle.std.proofs.lemmas.List.{get_or-replicate}
 use Rattle.std.proofs.lemmas.Grind.{get_or_default_zero}
@@ -20,15 +20,21 @@ early_ticks-requires-clause-few g c =
 early_small : (low mass sums : ℕ) → low ≤ 2 ^ 13 → mass ≤ 2 ^ 48 → sums ≤ mass * (low * 1) → sums ≤ 2 ^ 61
 early_small low mass sums few full most = omega (arith, most, mul-le-mul_left mass few, full)
 
-pub add_products-requires-clause-mass : goal.add_products-requires-clause-mass
-add_products-requires-clause-mass g c =
+pub add_early-requires-clause-none : goal.add_early-requires-clause-none
+add_early-requires-clause-none g c none =
+    let most : sum c.early_ticks.new.sums ≤ sum c.args.now.now * (c.args.rung.now.low * 1) =
+    rw (sum-constant c.args.rung.now.low 1) at c.early_ticks.ensures.gathered.most in
+    omega (arith, rw none at most)
+
+pub add_early-requires-clause-mass : goal.add_early-requires-clause-mass
+add_early-requires-clause-mass g c =
     let r = c.args.rung.now in
     let low : r.low ≤ 2 ^ 13 = low_few r.exponent r.low r.numbers.items r.tails.items r.held r.tailed r.few c.requires.usable in
     let most : sum c.early_ticks.new.sums ≤ sum c.args.now.now * (r.low * 1) = rw (sum-constant r.low 1) at c.early_ticks.ensures.gathered.most in
     omega (arith, early_small r.low (sum c.args.now.now) (sum c.early_ticks.new.sums) low c.requires.mass most)
 
-pub add_products-requires-clause-room : goal.add_products-requires-clause-room
-add_products-requires-clause-room g c =
+pub add_early-requires-clause-room : goal.add_early-requires-clause-room
+add_early-requires-clause-room g c =
     let r = c.args.rung.now in
     let zeros : sum c.fill-2.new.self ≡ 0 = sum-none c.fill-2.new.self
     (λ k h. rw (c.fill-2.ensures.after (λ y e. e)) (get_or-replicate (length c.args.stays.now) k 0 0 (omega (arith, c.fill-2.ensures.len)))) in
@@ -44,6 +50,8 @@ loop-k-init g c =
     let B = IsStep (g.T.Tick.step c.args.tick.now) in
     let loss : ℕ = g.T.Tick.loss c.args.tick.now in
     let z : r.low + 0 ≡ r.low = omega arith in
+    let long : r.low * length c.early_ticks.new.sums ≡ r.low * g.T.Tick.size c.args.tick.now =
+    ap (λ n. r.low * n) (omega (arith, c.early_ticks.auto.sums, c.requires.early)) in
     record {
       now = c.early_ticks.auto.now;
       next = c.early_ticks.auto.next;
@@ -51,14 +59,14 @@ loop-k-init g c =
       ends = rw z (gathered_zeros B loss c.args.now.now c.fill.new.self (power_of r.exponent) r.low
           (λ k h. rw (c.fill.ensures.after (λ y e. e)) (get_or-replicate (length c.args.ends.now) k 0 0 (omega (arith, c.fill.ensures.len)))) r.held.before);
       stays = rw z (stays_first B loss c.args.now.now r.exponent r.low r.numbers.items r.tails.items r.held r.tailed c.early_ticks.new.sums
-          c.fill-2.new.self c.add_products.new.sums
+          c.fill-2.new.self c.add_early.new.stays
           (λ k h. rw (c.fill-2.ensures.after (λ y e. e)) (get_or-replicate (length c.args.stays.now) k 0 0 (omega (arith, c.fill-2.ensures.len))))
-          (rw r.flat_is at c.add_products.ensures.added) c.early_ticks.ensures.gathered);
-      counted = omega (arith, c.early_ticks.ensures.steps, c.add_products.ensures.steps);
+          (rw r.flat_is at c.add_early.ensures.added) c.early_ticks.ensures.gathered);
+      counted = omega (arith, c.early_ticks.ensures.steps, c.add_early.ensures.steps, long);
     }
 
-pub add_products-requires-in-loop-k-clause-room : goal.add_products-requires-in-loop-k-clause-room
-add_products-requires-in-loop-k-clause-room g c =
+pub add_products-requires-clause-room : goal.add_products-requires-clause-room
+add_products-requires-clause-room g c =
     let r = c.args.rung.now in
     let B = IsStep (g.T.Tick.step c.args.tick.now) in
     let loss : ℕ = g.T.Tick.loss c.args.tick.now in
@@ -72,8 +80,8 @@ add_products-requires-in-loop-k-clause-room g c =
       number_room r.exponent r.low r.numbers.items r.tails.items r.held r.tailed c.index.result.now (sum c.loop-k.now) c.loop-k.k w now,
     )
 
-pub add_products-requires-in-loop-k-2-clause-room : goal.add_products-requires-in-loop-k-2-clause-room
-add_products-requires-in-loop-k-2-clause-room g c =
+pub add_products-requires-in-loop-k-clause-room : goal.add_products-requires-in-loop-k-clause-room
+add_products-requires-in-loop-k-clause-room g c =
     let r = c.args.rung.now in
     let B = IsStep (g.T.Tick.step c.args.tick.now) in
     let loss : ℕ = g.T.Tick.loss c.args.tick.now in
@@ -107,16 +115,16 @@ loop-k-preserved g c =
       ticked = rw next (ticked_more B loss v c.loop-k.now c.step.new.now (r.low + c.loop-k.k) c.loop-k.invariant.ticked c.step.ensures.weighed
           c.step.ensures.kept c.step.ensures.lack);
       ends = ends_more B loss v r.exponent r.low r.numbers.items r.tails.items r.held r.tailed c.loop-k.now c.loop-k.ends
-          c.add_products-in-loop-k.new.sums c.loop-k.k c.index.result.now within number
-          c.add_products-in-loop-k.ensures.added c.loop-k.invariant.ticked c.loop-k.invariant.ends;
+          c.add_products.new.sums c.loop-k.k c.index.result.now within number
+          c.add_products.ensures.added c.loop-k.invariant.ticked c.loop-k.invariant.ends;
       stays = stays_more B loss v r.exponent r.low r.numbers.items r.tails.items r.held r.tailed c.loop-k.now c.loop-k.stays
-          c.add_products-in-loop-k-2.new.sums c.loop-k.k c.index-in-loop-k.result.now within tail
-          c.add_products-in-loop-k-2.ensures.added c.loop-k.invariant.ticked c.loop-k.invariant.stays;
+          c.add_products-in-loop-k.new.sums c.loop-k.k c.index-in-loop-k.result.now within tail
+          c.add_products-in-loop-k.ensures.added c.loop-k.invariant.ticked c.loop-k.invariant.stays;
       counted = omega (
         arith,
         c.loop-k.invariant.counted,
+        c.add_products.ensures.steps,
         c.add_products-in-loop-k.ensures.steps,
-        c.add_products-in-loop-k-2.ensures.steps,
         c.step.ensures.steps,
         size,
       );

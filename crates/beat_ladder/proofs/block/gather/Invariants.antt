@@ -13,5 +13,5 @@ invariant-loop-k g l = record {
   ends : IsGathered (IsStep (g.T.Tick.step l.tick)) (g.T.Tick.loss l.tick) l.fn.now l.ends (power_of l.rung.exponent) (l.rung.low + l.k);
   stays : IsGathered (IsStep (g.T.Tick.step l.tick)) (g.T.Tick.loss l.tick) l.fn.now l.stays
       (tail l.rung.exponent l.rung.low l.rung.numbers.items l.rung.tails.items l.rung.held l.rung.tailed) (l.rung.low + l.k);
-  counted : l.steps ≤ l.fn.steps + (l.rung.low + l.k) * g.T.Tick.products l.tick + (2 * l.k + 1) * g.T.Tick.size l.tick;
+  counted : l.steps ≤ l.fn.steps + (l.rung.low + l.k) * g.T.Tick.products l.tick + (2 * l.k + l.rung.low) * g.T.Tick.size l.tick;
 }

@@ -44,3 +44,23 @@ loop-exponent-preserved g c =
           (c.loop-exponent.left / c.from-beats_of_rung.result * 2 ^ c.rung-rung.result.now.exponent)
           (beat_products_in_blocks (g.T.Tick.products c.args.tick.now) (g.T.Tick.size c.args.tick.now)) c.loop-exponent.invariant.counted c.pass_rung.ensures.steps);
     }
+
+pub returns-clause-passes : goal.returns-clause-passes
+returns-clause-passes g c =
+    let zero : c.rung-beat.result.now.exponent ≡ 0 = c.rung-beat.ensures.which in
+    let one : c.loop-exponent.left * 2 ^ c.rung-beat.result.now.exponent ≡ c.loop-exponent.left = rw zero (omega arith) in
+    let all : c.args.beats - 0 ≡ (c.args.beats - c.loop-exponent.left) + c.loop-exponent.left * 2 ^ c.rung-beat.result.now.exponent =
+    omega (arith, one, c.loop-exponent.invariant.left) in
+    rw all (passes_more (IsStep (g.T.Tick.step c.args.tick.now)) 16 (beat_loss_in_blocks (g.T.Tick.loss c.args.tick.now) (g.T.Tick.size c.args.tick.now)) (c.args.beats - c.loop-exponent.left)
+    (c.loop-exponent.left * 2 ^ c.rung-beat.result.now.exponent) c.args.v.now c.loop-exponent.v c.pass_rung-2.new.v
+    c.args.dwell.now c.loop-exponent.dwell c.pass_rung-2.new.dwell c.loop-exponent.invariant.passes c.pass_rung-2.ensures.passes)
+
+pub returns-clause-steps : goal.returns-clause-steps
+returns-clause-steps g c =
+    let zero : c.rung-beat.result.now.exponent ≡ 0 = c.rung-beat.ensures.which in
+    let one : c.loop-exponent.left * 2 ^ c.rung-beat.result.now.exponent ≡ c.loop-exponent.left = rw zero (omega arith) in
+    let all : c.args.beats - 0 ≡ (c.args.beats - c.loop-exponent.left) + c.loop-exponent.left * 2 ^ c.rung-beat.result.now.exponent =
+    omega (arith, one, c.loop-exponent.invariant.left) in
+    rw all (counted_more c.args.steps.now c.pass_rung-2.new.steps c.loop-exponent.steps (c.args.beats - c.loop-exponent.left)
+    (c.loop-exponent.left * 2 ^ c.rung-beat.result.now.exponent)
+    (beat_products_in_blocks (g.T.Tick.products c.args.tick.now) (g.T.Tick.size c.args.tick.now)) c.loop-exponent.invariant.counted c.pass_rung-2.ensures.steps)

@@ -32,7 +32,7 @@ loop-preserved g c =
     let m : ℕ = 2 ^ c.args.rung.now.exponent in
     let next : (c.loop.counter + 1) * 2 ^ c.args.rung.now.exponent ≡ c.loop.counter * 2 ^ c.args.rung.now.exponent + 2 ^ c.args.rung.now.exponent = omega arith in
     let steps : c.pass.new.steps ≤ c.loop.steps + 2 ^ c.args.rung.now.exponent * beat_products_in_blocks (g.T.Tick.products c.args.tick.now) (g.T.Tick.size c.args.tick.now) =
-    omega (arith, c.pass.ensures.steps, block_products_within (g.T.Tick.products c.args.tick.now) (g.T.Tick.size c.args.tick.now) c.args.rung.now.exponent c.requires.several) in
+    omega (arith, c.pass.ensures.steps, block_products_within (g.T.Tick.products c.args.tick.now) (g.T.Tick.size c.args.tick.now) c.args.rung.now.exponent) in
     record {
       room = c.pass.ensures.size ∙ c.loop.invariant.room;
       passes = rw next (passes_more (IsStep (g.T.Tick.step c.args.tick.now)) 16 (beat_loss_in_blocks (g.T.Tick.loss c.args.tick.now) (g.T.Tick.size c.args.tick.now)) (c.loop.counter * m) m c.args.v.now c.loop.v c.pass.new.v c.args.dwell.now

@@ -5,7 +5,7 @@ use Rattle.product_chain.proofs.Chains.{written}
 use Rattle.reached_chain.specs.Marks.{is_marked, IsClosed, IsPassedOn}
 use Rattle.reached_chain.specs.Places.{ArePlaces, AreCompact}
 use Rattle.reached_chain.specs.Reached.{ReachedValue}
-use Rattle.reached_chain.proofs.Between.{are_closed, are_between, passed-on}
+use Rattle.reached_chain.proofs.Between.{are_in_order, are_closed, are_between, passed-on}
 use Rattle.reached_chain.proofs.Listed.{support, marked-inside}
 use Rattle.reached_chain.proofs.reached.ReachedChain.reach.Goals as goal
 
@@ -20,6 +20,7 @@ invariant_of-self c =
     let R : List ℕ = c.list_places.new.ranks in
     let P : List ℕ = c.list_places.new.places.items in
     let loop : s.of.value.of ≡ chain.of = ap (λ (v : ReachedValue). v.chain.of) c.self.view_is ∙ c.requires.same in
+    let masses_room = rw loop at c.self.invariant.1.masses_room in
     let marks_room = rw loop at c.self.invariant.1.marks_room in
     let ranks_room = rw loop at c.self.invariant.1.ranks_room in
     let starts_room = rw loop at c.self.invariant.1.starts_room in
@@ -45,14 +46,18 @@ invariant_of-self c =
         valid = c.columns-columns.ensures.valid;
         few = c.columns-columns.ensures.few;
         timed = c.columns-columns.ensures.timed;
-        closed =
+        placed =
+            are_in_order chain.of.subsystems chain.hours chain.beats N P R begins all c.compact.new.starts.items c.compact.new.entries.items
+            c.columns-columns.ensures.weights long is compact c.compact.ensures.few;
+        shut = λ e.
             are_closed chain.of.subsystems chain.hours chain.beats N P R begins all c.compact.new.starts.items c.compact.new.entries.items
-            c.columns-columns.ensures.weights long is closed compact c.compact.ensures.few;
+            c.columns-columns.ensures.weights long is compact c.compact.ensures.few closed;
         between =
             are_between chain.of.subsystems chain.hours chain.beats N P R begins all c.compact.new.starts.items c.compact.new.entries.items
-            c.columns-columns.ensures.weights long is closed compact c.compact.ensures.few;
+            c.columns-columns.ensures.weights long is compact c.compact.ensures.few;
       },
       record {
+        masses_room = masses_room;
         marks_room = marks_room;
         ranks_room = ranks_room;
         places_room = omega (arith, c.list_places.ensures.room, ap length seen, long);

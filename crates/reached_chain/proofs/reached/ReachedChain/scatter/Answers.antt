@@ -1,5 +1,5 @@
 use Rattle.std.proofs.Common.{◌≡◌, sym, ap, arith}
-use Rattle.reached_chain.specs.Reached.{ReachedValue, AreClosed, IsGatheredFrom, IsWithin}
+use Rattle.reached_chain.specs.Reached.{ReachedValue, AreInOrder, IsGatheredFrom, IsWithin}
 use Rattle.reached_chain.proofs.Scattered.{weigh-gathered, sum-gathered}
 use Rattle.reached_chain.proofs.reached.ReachedChain.scatter.Goals as goal
 
@@ -9,10 +9,10 @@ returns-clause-weighed c f =
     let r = c.args.self.now in
     let chain : s.of.value ≡ r.chain = ap (λ (v : ReachedValue). v.chain) c.self.view_is in
     let places : s.places.items ≡ r.places = ap (λ (v : ReachedValue). v.places) c.self.view_is in
-    let closed : AreClosed r.chain.of.subsystems r.chain.hours r.chain.beats r.places = rw (chain, places) at c.self.invariant.0.closed in
+    let placed : AreInOrder r.chain.of.subsystems r.places = rw (chain, places) at c.self.invariant.0.placed in
     let is : IsGatheredFrom r.places c.put_at.new.v c.args.small.now = rw (c.as_slice.ensures.value, places) at c.put_at.ensures.gathered in
     let within : IsWithin r.places c.put_at.new.v = rw (c.as_slice.ensures.value, places) at c.put_at.ensures.within in
-    sym (weigh-gathered r.places c.put_at.new.v c.args.small.now closed.rising (λ k h. omega (arith, closed.below k h, c.requires.v, c.put_at.auto.v)) is within f)
+    sym (weigh-gathered r.places c.put_at.new.v c.args.small.now placed.rising (λ k h. omega (arith, placed.below k h, c.requires.v, c.put_at.auto.v)) is within f)
 
 pub returns-clause-kept : goal.returns-clause-kept
 returns-clause-kept c =
@@ -20,7 +20,7 @@ returns-clause-kept c =
     let r = c.args.self.now in
     let chain : s.of.value ≡ r.chain = ap (λ (v : ReachedValue). v.chain) c.self.view_is in
     let places : s.places.items ≡ r.places = ap (λ (v : ReachedValue). v.places) c.self.view_is in
-    let closed : AreClosed r.chain.of.subsystems r.chain.hours r.chain.beats r.places = rw (chain, places) at c.self.invariant.0.closed in
+    let placed : AreInOrder r.chain.of.subsystems r.places = rw (chain, places) at c.self.invariant.0.placed in
     let is : IsGatheredFrom r.places c.put_at.new.v c.args.small.now = rw (c.as_slice.ensures.value, places) at c.put_at.ensures.gathered in
     let within : IsWithin r.places c.put_at.new.v = rw (c.as_slice.ensures.value, places) at c.put_at.ensures.within in
-    sym (sum-gathered r.places c.put_at.new.v c.args.small.now closed.rising (λ k h. omega (arith, closed.below k h, c.requires.v, c.put_at.auto.v)) is within)
+    sym (sum-gathered r.places c.put_at.new.v c.args.small.now placed.rising (λ k h. omega (arith, placed.below k h, c.requires.v, c.put_at.auto.v)) is within)

@@ -1,0 +1,201 @@
+//! Blocks of beats over chosen places, where what is lost elsewhere is little.
+
+ghost use Rattle.std.specs.Prelude.{◌≡◌, ℕ, ◌+◌, ◌*◌, ◌^◌, ◌<◌, ◌≤◌, length, sum, slice_index, IsTrue, IsFalse};
+ghost use Rattle.sil_model.specs.Budget.{lumped_events_of};
+ghost use Rattle.sil_model.specs.Sizes.{states_of};
+ghost use Rattle.vector_laws.specs.Vectors.{IsMass};
+ghost use Rattle.uniformise.specs.Beat.{beat_products};
+ghost use Rattle.phase_run.specs.Passes.{Passes, LosesLittle, block_beat_loss, beat_products_in_blocks};
+
+use crate::blocks::pass_blocks;
+use beat_ladder::{BlockRoom, Ladder};
+use product_chain::Chain;
+use reached_chain::ReachedChain;
+use sil_model::{Loop, Steps};
+use std::sync::ledger::Ledger;
+
+/// In a phase of fewer beats no places are chosen: that takes about as long as it saves.
+const LEAST_BEATS: u64 = 64;
+
+/// Places into which a phase brings at most so much for each of its beats are left out, in units of 2^-48.
+const LEAST_MASS: u64 = 2;
+
+/// How many lumped events a loop has: four for each group, and three common causes for each subsystem.
+#[tactic(auto, unfolding(sil_model::specs::Budget::lumped_events_of))]
+pub fn events_of(l: &Loop) -> u64
+    ensures value { result ≡ lumped_events_of l.now.subsystems }
+    ensures few { result ≤ 1_000 }
+{
+    4 * l.groups() as u64 + 3 * l.len() as u64
+}
+
+/// Whether beats may be tried over chosen places: these are clearly fewer than those that are reached, and should too much be
+/// lost, both tries take no more products than the beats may.
+fn may_be_tried(
+    chosen: &ReachedChain,
+    reached: &ReachedChain,
+    of_reached: u128,
+    states: usize,
+    events: u64,
+) -> bool
+    requires of_reached { of_reached ≡ beat_products_in_blocks reached.now.entries (length reached.now.places) }
+    requires small { of_reached ≤ 2 ^ 80 }
+    requires same { chosen.now.chain.of ≡ reached.now.chain.of }
+    requires states { states ≡ states_of reached.now.chain.of.subsystems }
+    requires events { events ≡ lumped_events_of reached.now.chain.of.subsystems }
+    requires few_events { events ≤ 1_000 }
+    ensures { IsTrue result → beat_products_in_blocks chosen.now.entries (length chosen.now.places) + beat_products_in_blocks reached.now.entries (length reached.now.places)
+        ≤ beat_products reached.now.chain.of.subsystems 16 }
+{
+    let all = states as u128 * (16 * (u128::from(events) + 1) + 33);
+    8 * chosen.products() as u128 <= 7 * reached.products() as u128
+        && products_of_beat(chosen) + of_reached <= all
+}
+
+/// How many products a beat of a block takes over the places, at most.
+#[tactic(auto, using(crate::proofs::OverPlaces::products_of_places))]
+fn products_of_beat(chain: &ReachedChain) -> u128
+    ensures value { result ≡ beat_products_in_blocks chain.now.entries (length chain.now.places) }
+    ensures small { result ≤ 2 ^ 80 }
+    ensures within { result ≤ beat_products chain.now.chain.of.subsystems 16 }
+{
+    16 * chain.products() as u128 + 33 * chain.size() as u128
+}
+
+/// What a beat of a block may lose of a loop of so many count vectors and events, in units of 2^-48.
+fn loss_of_beat(states: usize, events: u64) -> u128
+    ensures value { result ≡ 2 * events + 2 * states + 200 }
+    ensures small { result ≤ 2 ^ 67 }
+{
+    2 * u128::from(events) + 2 * states as u128 + 200
+}
+
+/// The sum of all numbers.
+fn total(v: &[u128]) -> u128
+    requires { sum v.now < 2 ^ 128 }
+    ensures { result ≡ sum v.now }
+{
+    v.iter().sum()
+}
+
+/// Whether in so many beats a vector and its dwell have lost at most half of what they may.
+fn loses_little(before: &[u128], after: &[u128], dwelt: &[u128], beats: u64, loss: u128) -> bool
+    requires before { sum before.now ≤ 2 ^ 48 }
+    requires after { sum after.now ≤ 2 ^ 48 }
+    requires dwelt { sum dwelt.now ≤ beats * 2 ^ 48 }
+    requires few { beats ≤ 1_000_000 }
+    requires small { loss ≤ 2 ^ 67 }
+    ensures { IsTrue result → LosesLittle beats loss before.now after.now dwelt.now }
+{
+    let beats = u128::from(beats);
+    let before = total(before);
+    let lost = before.saturating_sub(total(after));
+    let lacks = (beats * before).saturating_sub(total(dwelt));
+    2 * lost <= beats * loss && 2 * lacks <= beats * beats * loss
+}
+
+/// Passes beats over chosen places, and answers whether little was lost; if not, vector and dwell stay as they were.
+#[allow(clippy::too_many_arguments)]
+fn pass_over_chosen<L: Ledger>(
+    chosen: &ReachedChain,
+    ladder: &Ladder,
+    blocks: &mut BlockRoom,
+    beats: u64,
+    events: u64,
+    small: &mut [u128],
+    small_dwell: &mut [u128],
+    v: &mut [u128],
+    dwell: &mut [u128],
+    steps: &mut Steps<L>,
+) -> bool
+    requires rungs { 0 < ladder.now }
+    requires blocks { states_of chosen.now.chain.of.subsystems ≤ blocks.old }
+    requires events { events ≡ lumped_events_of chosen.now.chain.of.subsystems }
+    requires small { length small.old ≡ states_of chosen.now.chain.of.subsystems }
+    requires small_dwell { length small_dwell.old ≡ states_of chosen.now.chain.of.subsystems }
+    requires v { length v.old ≡ states_of chosen.now.chain.of.subsystems }
+    requires dwell { length dwell.old ≡ states_of chosen.now.chain.of.subsystems }
+    requires mass { IsMass v.old }
+    requires none { (k : ℕ) → k < length dwell.old → slice_index dwell.old k ≡ 0 }
+    requires few { beats ≤ 1_000_000 }
+    ensures blocks { blocks.new ≡ blocks.old }
+    ensures passes { IsTrue result → Passes chosen.now.chain 16 (block_beat_loss chosen.now.chain.of.subsystems) beats v.old v.new dwell.old dwell.new }
+    ensures kept { IsFalse result → v.new ≡ v.old }
+    ensures dwell_kept { IsFalse result → dwell.new ≡ dwell.old }
+    ensures steps { steps.new ≤ steps.old + beats * beat_products_in_blocks chosen.now.entries (length chosen.now.places) }
+{
+    let loss = loss_of_beat(v.len(), events);
+    let size = chosen.size();
+    let small = &mut small[..size];
+    let small_dwell = &mut small_dwell[..size];
+    chosen.gather(v, small);
+    small_dwell.fill(0);
+    pass_blocks(ladder, blocks, chosen, beats, small, small_dwell, steps);
+    if !loses_little(v, small, small_dwell, beats, loss) {
+        return false;
+    }
+    chosen.scatter(small, v);
+    chosen.scatter(small_dwell, dwell);
+    true
+}
+
+/// Chooses the places that come to hold enough, where they are clearly fewer than those that are reached, and passes beats over
+/// them. It answers whether it has done so and little was lost; if not, vector and dwell stay as they were.
+#[allow(clippy::too_many_arguments)]
+pub fn pass_over_few<L: Ledger>(
+    chosen: &mut ReachedChain,
+    reached: &ReachedChain,
+    chain: &Chain,
+    ladder: &Ladder,
+    blocks: &mut BlockRoom,
+    beats: u64,
+    events: u64,
+    small: &mut [u128],
+    small_dwell: &mut [u128],
+    v: &mut [u128],
+    dwell: &mut [u128],
+    steps: &mut Steps<L>,
+) -> bool
+    requires same { chosen.old.chain.of ≡ chain.now.of }
+    requires reached { reached.now.chain ≡ chain.now }
+    requires blocks { states_of chain.now.of.subsystems ≤ blocks.old }
+    requires events { events ≡ lumped_events_of chain.now.of.subsystems }
+    requires few_events { events ≤ 1_000 }
+    requires small { length small.old ≡ states_of chain.now.of.subsystems }
+    requires small_dwell { length small_dwell.old ≡ states_of chain.now.of.subsystems }
+    requires v { length v.old ≡ states_of chain.now.of.subsystems }
+    requires dwell { length dwell.old ≡ states_of chain.now.of.subsystems }
+    requires mass { IsMass v.old }
+    requires none { (k : ℕ) → k < length dwell.old → slice_index dwell.old k ≡ 0 }
+    requires few { beats ≤ 1_000_000 }
+    ensures same { chosen.new.chain.of ≡ chain.now.of }
+    ensures blocks { blocks.new ≡ blocks.old }
+    ensures passes { IsTrue result → Passes chain.now 16 (block_beat_loss chain.now.of.subsystems) beats v.old v.new dwell.old dwell.new }
+    ensures kept { IsFalse result → v.new ≡ v.old }
+    ensures dwell_kept { IsFalse result → dwell.new ≡ dwell.old }
+    ensures none { ladder.now ≡ 0 → steps.new ≡ steps.old }
+    // beats over all places that are reached may follow
+    ensures steps { steps.new + beats * beat_products_in_blocks reached.now.entries (length reached.now.places) ≤ steps.old + beats * beat_products chain.now.of.subsystems 16 }
+{
+    let of_reached = products_of_beat(reached);
+    if beats < LEAST_BEATS || ladder.rungs() == 0 {
+        return false;
+    }
+    // The ladder takes at most about a tick and a quarter for each beat of a long phase.
+    chosen.choose(chain, v, beats + beats / 4, LEAST_MASS * beats);
+    if !may_be_tried(chosen, reached, of_reached, v.len(), events) {
+        return false;
+    }
+    pass_over_chosen(
+        chosen,
+        ladder,
+        blocks,
+        beats,
+        events,
+        small,
+        small_dwell,
+        v,
+        dwell,
+        steps,
+    )
+}

@@ -1,0 +1,105 @@
+//! An estimate of what a phase brings into each count vector.
+//!
+//! No clause says how good it is: what is lost with the count vectors that it leaves out shows at the end of the phase, by
+//! what the vector then lacks.
+
+ghost use Rattle.std.specs.Prelude.{◌≡◌, ◌<◌, ◌≤◌, ◌^◌, length, All};
+ghost use Rattle.product_chain.specs.Columns.{AreWeighted};
+
+use product_chain::Entry;
+
+const ONE: u64 = 1 << 48;
+
+/// How often the estimate goes over all count vectors. A fault leads to a later one, so that one sweep follows any number of
+/// faults; the next one adds what comes of repairs.
+const SWEEPS: u32 = 2;
+
+/// What a tick brings into a count vector from others, in units of 2^-72, and how much of it stays, in units of 2^-48.
+#[derive(Clone, Copy)]
+struct Flow {
+    comes: u128,
+    stays: u64,
+}
+
+/// Marks the count vectors that hold more than `least` at the start of so many ticks or into which these bring more, in units
+/// of 2^-48.
+pub fn mark_heavy(
+    entries: &[Entry],
+    starts: &[usize],
+    v: &[u128],
+    ticks: u64,
+    least: u64,
+    masses: &mut [u64],
+    marks: &mut [bool],
+)
+    requires columns { AreWeighted (length marks.old) (length marks.old) starts.now entries.now }
+    requires v { length v.now ≡ length marks.old }
+    requires masses { length masses.old ≡ length marks.old }
+{
+    start_masses(v, masses);
+    for _ in 0..SWEEPS {
+        sweep(entries, starts, v, ticks, masses);
+    }
+    let least = u128::from(least);
+    for j in 0..marks.len() {
+        let flow = flow_into(entries, starts, j, masses);
+        marks[j] = v[j].saturating_add(brought(flow, ticks)) > least;
+    }
+}
+
+/// The masses of a vector, none greater than 1.
+fn start_masses(v: &[u128], masses: &mut [u64])
+    requires { length masses.old ≡ length v.now }
+{
+    for i in 0..v.len() {
+        masses[i] = v[i].min(u128::from(ONE)) as u64;
+    }
+}
+
+/// Estimates in turn the mass that each count vector comes to hold: what it holds at the start, and what flows in while, in
+/// the mean, it stays.
+fn sweep(entries: &[Entry], starts: &[usize], v: &[u128], ticks: u64, masses: &mut [u64])
+    requires columns { AreWeighted (length masses.old) (length masses.old) starts.now entries.now }
+    requires v { length v.now ≡ length masses.old }
+{
+    for j in 0..v.len() {
+        let flow = flow_into(entries, starts, j, masses);
+        let leaves = ONE.saturating_sub(flow.stays).max(1);
+        let held = v[j].saturating_add(brought(flow, ticks.min(ONE / leaves)));
+        masses[j] = held.min(u128::from(ONE)) as u64;
+    }
+}
+
+/// What flows into a count vector in a tick.
+fn flow_into(entries: &[Entry], starts: &[usize], target: usize, masses: &[u64]) -> Flow
+    requires columns { AreWeighted (length masses.now) (length masses.now) starts.now entries.now }
+    requires target { target < length masses.now }
+{
+    flow_through(&entries[starts[target]..starts[target + 1]], target, masses)
+}
+
+/// What flows into a count vector through its column.
+fn flow_through(column: &[Entry], target: usize, masses: &[u64]) -> Flow
+    requires sources { All (λ e. e.source < length masses.now) column.now }
+{
+    let mut moved = 0u128;
+    let mut stays = 0;
+    for entry in column {
+        let source = entry.source as usize;
+        if source == target {
+            stays = entry.weight;
+        } else {
+            let part = u128::from(masses[source]) * u128::from(entry.weight);
+            moved = moved.saturating_add(part);
+        }
+    }
+    Flow {
+        comes: moved >> 24,
+        stays,
+    }
+}
+
+/// What so many ticks bring, in units of 2^-48.
+fn brought(flow: Flow, ticks: u64) -> u128 {
+    flow.comes.saturating_mul(u128::from(ticks)) >> 24
+}
