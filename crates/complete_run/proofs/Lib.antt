@@ -1,3 +1,4 @@
 mod Lengths
 mod Sound
 mod Unsound
+mod OneChannel

@@ -2,13 +2,14 @@
 //!
 //! The clause `complete` of [`run`] has premises: that the words are in the language, that the file is told, without fault and
 //! within the limits, and that neither count of faults rises. Here the shelf, the sink and the words are made, and each of those
-//! premises is proved: what remains is said of the bytes of the file alone ([`check_file`]), read off them ([`check_sound`]), or
-//! nothing at all ([`check_drawn`]).
+//! premises is proved: what remains is said of the bytes of the file alone ([`check_file`]), read off them ([`check_sound`]), that
+//! a drawn loop has no longer file than is allowed ([`check_drawn`]), or nothing at all ([`check_one_channel`]).
 #![tactic(auto)]
 
 ghost use Rattle.std.specs.Prelude.{◌≡◌, codes, List, [], ◌∷◌, map, string_bytes, IfOk, IfNone, IfSome};
 ghost use Rattle.sil_model.specs.LoopValue.{LoopValue};
 ghost use Rattle.loop_gen.specs.Drawn.{drawn_of};
+ghost use Rattle.complete_run.specs.OneChannel.{one_channel};
 ghost use Rattle.complete_run.specs.Whole.{AreSound, AreUnsound, HasLongFile, IsWhole};
 
 use file_fault::FileFault;
@@ -26,6 +27,21 @@ mod tests;
 
 /// Room for every report.
 const ROOM: usize = 1024;
+
+/// The bytes of examples/one-channel.toml.
+const ONE_CHANNEL: &[u8] = b"\
+    # One transmitter with one dangerous undetected failure in a million hours, \
+    a mission of a year and no test at all.\n\
+    # PFDavg has the closed form 1 - (1 - e^-x)/x with x = 0.00876, \
+    which is 0.0043672383602...: inside the interval.\n\
+    # The smallest loop there is; a start for a file of one's own.\n\
+    version = 1\n\
+    mission = 8760\n\
+    [[subsystem]]\n\
+    name = \"sif\"\n\
+    vote = \"1oo1\"\n\
+    du = \"1.0E-6\"\n\
+    repair = 8\n";
 
 /// The words of the run.
 fn words_of_check(alloc: Global) -> Result<Vec<String>, AllocError>
@@ -82,4 +98,12 @@ pub fn check_drawn(alloc: Global, number: u64) -> Result<Option<(Status, MemSink
         return Ok(None);
     }
     Ok(Some(check_file(alloc, &file)?))
+}
+
+/// The same of the file of one channel without tests, for a year. The checker reads its bytes, so no premise is left open.
+#[tactic(auto, using(crate::proofs::OneChannel::one_channel_is_sound))]
+pub fn check_one_channel(alloc: Global) -> Result<(Status, MemSink), AllocError>
+    ensures { IfOk result (λ ended. IsWhole one_channel ended.0 ended.1.written) }
+{
+    check_file(alloc, ONE_CHANNEL)
 }

@@ -1,19 +1,23 @@
-use super::{check_drawn, check_sound};
+use super::{ONE_CHANNEL, check_drawn, check_one_channel, check_sound};
 use sil_top::Status;
 use std::test::Fail;
-
-/// One channel without tests, for a year.
-const ONE_CHANNEL: &[u8] =
-    b"version = 1\nmission = 8760\n[[subsystem]]\nname = 'sif'\nvote = '1oo1'\ndu = '1.0E-6'\nrepair = 8\n";
 
 /// The whole report of one channel stands in the sink. Its PFDavg is 1 - (1 - e^-x)/x with x = 0.00876, and its PFH that of
 /// the same closed form: 0.004367238360223395 and 0.000000995632761639, cut off behind their last digits.
 #[test]
 fn one_channel_is_reported(rt: HostRuntime) -> Result<(), Fail> {
-    let (status, sink) = check_sound(rt.alloc(), ONE_CHANNEL)?.ok_or("not sound")?;
+    let (status, sink) = check_one_channel(rt.alloc())?;
     assert_eq!(rt; status, Status::Done);
     let start = b"mission 8760\nphases 1\nstates 4\nbeats 1096\norder 28\npfd 0.00436";
     assert!(rt; sink.bytes().starts_with(start));
+    Ok(())
+}
+
+/// A sound file is told as one.
+#[test]
+fn file_of_one_channel_is_sound(rt: HostRuntime) -> Result<(), Fail> {
+    let (status, _) = check_sound(rt.alloc(), ONE_CHANNEL)?.ok_or("not sound")?;
+    assert_eq!(rt; status, Status::Done);
     Ok(())
 }
 
