@@ -3,14 +3,22 @@
 
 usage: refused_memory.py PROGRAM
        refused_memory.py --memory
-       refused_memory.py --try [FIRST [LAST]]
+       refused_memory.py --try [--few]
+       refused_memory.py --try FIRST [LAST]
 
 A growth is a call for memory. PROGRAM is run over real files, with a library put before the C library (made by `cc`, in
 a folder of its own) that refuses the Nth call, for each N until 50 numbers in a row are more than the run needs. That
 takes seconds. With `--memory` the same is done over a shelf and a sink in memory that are made before the run: a copy of
-the crates gets one more crate, whose `main` makes one run, and `rt run` proves and builds it. With `--try` this crate is
-run by `rt try --fail-alloc N` for each N from FIRST (1) on, until 3 numbers in a row are more than the run needs, or to
-LAST; `rt try` builds it anew for each N, in a minute or more, so that this is for a night.
+the crates gets one more crate, whose `main` makes one run, and `rt run` proves and builds it.
+
+With `--try` this crate is run by `rt try --fail-alloc N` for each N, until 50 numbers in a row are more than the run
+needs. `rt try` compiles N into the program, and all the crates anew, in two minutes. So it builds one program for 256
+numbers, with the greatest of them, TOP, and takes each number N and each command as a case of it (`--cases`): the program
+first makes TOP - N growths and gives them back, so that the one that `rt try` refuses, its TOPth, is the one that `rt
+try --fail-alloc N` refuses in the program which makes none before. One more `rt try`, which refuses nothing, tells what
+each run writes. That takes some minutes. `--few` takes each 29th number alone, for a trial. With FIRST, a program that
+makes none before is built by `rt try --fail-alloc N` for each N from FIRST on, with the commands as its cases, until 3
+numbers in a row are more than each run needs, or to LAST: this is for some numbers, or for a night.
 
 A run whose growth was refused has to end with status 6 and nothing written; over real files with 4 too, since a file may
 not be opened for want of memory. The last lines say how many growths were refused. The status is 1 where a run ended
@@ -30,6 +38,8 @@ LOOP = TOP / "examples" / "one-channel.toml"
 COMMANDS = (("check", "loop.toml", "--series"), ("check", "loop.toml"), ("size", "loop.toml"), ("gen", "7"))
 MEMORY, SHELF = 6, 4
 NOT_MADE = 100
+# How many numbers one program that `rt try` builds is for.
+BLOCK = 256
 
 MAIN = '''//! One run over a shelf and a sink in memory, on the words given.
 #![tactic(auto)]
@@ -66,7 +76,7 @@ fn main(rt: HostRuntime) -> ExitCode {
             return ExitCode::from(NOT_MADE);
         }
     }
-    let Ok((status, written)) = one_run(rt.alloc(), &words) else {
+EARLIER    let Ok((status, written)) = one_run(rt.alloc(), &words) else {
         return ExitCode::from(NOT_MADE);
     };
     if println!(rt; "status {status}, {written} bytes").is_err() {
@@ -74,6 +84,20 @@ fn main(rt: HostRuntime) -> ExitCode {
     }
     ExitCode::from(status)
 }
+'''
+
+# The last word is how many growths come before the run.
+EARLIER = '''    let Some(number) = words.pop() else {
+        return ExitCode::from(NOT_MADE);
+    };
+    let Ok(earlier) = number.parse::<usize>() else {
+        return ExitCode::from(NOT_MADE);
+    };
+    for _ in 0..earlier {
+        if Box::new(rt.alloc(), 0u8).is_err() {
+            return ExitCode::from(NOT_MADE);
+        }
+    }
 '''
 
 REFUSING = '''
@@ -134,8 +158,8 @@ def judged(name, runs, most_unneeded, allowed):
     return not wrong
 
 
-def subject(folder):
-    """The folder of the crate that makes one run in memory, in a copy of the crates."""
+def subject(folder, earlier):
+    """The folder of the crate that makes one run in memory, in a copy of the crates; `earlier` is what comes before."""
     copy = Path(folder, "copy")
     shutil.copytree(TOP / "crates", copy / "crates", ignore=shutil.ignore_patterns("out"))
     for name in ("crates.txt", "HANDLES"):
@@ -145,7 +169,7 @@ def subject(folder):
     source = copy / "crates" / "refused_memory" / "src" / "main.rt"
     source.parent.mkdir(parents=True)
     text = LOOP.read_text().replace("\\", "\\\\").replace('"', '\\"').replace("\n", "\\n")
-    source.write_text(MAIN.replace("FILE-TEXT", text))
+    source.write_text(MAIN.replace("EARLIER", earlier).replace("FILE-TEXT", text))
     return source.parent.parent
 
 
@@ -155,18 +179,50 @@ def told(output):
     return int(line[1]) if line else 0
 
 
-def by_trying(folder, first, last):
-    crate = subject(folder)
+def earlier_word(number):
+    """The last word of the subject, of one length, so that reading the words takes as many growths in each case."""
+    return f"{number:06}"
+
+
+def tried(crate, refused, cases):
+    """What `rt try` says of each case, a pair of words and a number of growths before the run: its status and bytes.
+
+    One program is built, whose growth `refused` fails; none where it is 0.
+    """
+    with tempfile.TemporaryDirectory() as folder:
+        for at, (words, earlier) in enumerate(cases):
+            Path(folder, f"{at:05}").touch()
+            Path(folder, f"{at:05}.args").write_text("".join(word + "\n" for word in (*words, earlier_word(earlier))))
+        refusing = ["--fail-alloc", str(refused)] if refused else []
+        done = subprocess.run(["rt", "try", "--seconds", "60", *refusing, "--cases", folder], cwd=crate,
+                              stdin=subprocess.DEVNULL, capture_output=True, text=True)
+    ended = dict(re.findall(r"^case=([0-9]{5}) run=ended status=([0-9]+)", done.stderr, re.M))
+    printed = re.split(r"^== ([0-9]{5})\n", done.stdout, flags=re.M)[1:]
+    texts = dict(zip(printed[::2], printed[1::2]))
+    names = [f"{at:05}" for at in range(len(cases))]
+    if any(name not in ended for name in names):
+        sys.exit(done.stdout[-4000:] + done.stderr[-4000:])
+    print(f"rt try{f' --fail-alloc {refused}' if refused else ', nothing refused'}: {len(cases)} cases", flush=True)
+    return [(int(ended[name]), told(texts.get(name, ""))) for name in names]
+
+
+def by_trying(folder, numbers, block, most_unneeded):
+    """Judges the numbers by `rt try`, which builds one program for each block of so many numbers."""
+    crate = subject(folder, EARLIER)
+    outcomes = {}
+
+    def take(refused, cases):
+        keys = [(words, number) for words in COMMANDS for number in cases]
+        ended = tried(crate, refused, [(words, refused - number if number else 0) for words, number in keys])
+        outcomes.update(zip(keys, ended))
 
     def run(words, number):
-        tried = ["rt", "try", "--seconds", "60", *(["--fail-alloc", str(number)] if number else []), "--", *words]
-        output = subprocess.run(tried, cwd=crate, stdin=subprocess.DEVNULL, capture_output=True, text=True)
-        ended = re.search(r"ended status=([0-9]+)", output.stdout)
-        if not ended:
-            sys.exit(output.stdout + output.stderr)
-        return int(ended[1]), told(output.stdout)
+        if (words, number) not in outcomes:
+            top = -(-number // block) * block
+            take(top, [it for it in range(top - block + 1, top + 1) if it in numbers] if number else [0])
+        return outcomes[words, number]
 
-    return swept(run, range(first, last + 1), 3, (MEMORY,))
+    return swept(run, numbers, most_unneeded, (MEMORY,))
 
 
 def by_library(folder, program, in_memory):
@@ -197,7 +253,7 @@ def swept(run, numbers, most_unneeded, allowed):
 
 
 def in_memory(folder):
-    crate = subject(folder)
+    crate = subject(folder, "")
     built = subprocess.run(["rt", "run"], cwd=crate, stdin=subprocess.DEVNULL, capture_output=True, text=True)
     program = crate / "out" / "refused_memory"
     if not program.exists():
@@ -207,12 +263,17 @@ def in_memory(folder):
 
 def main():
     words = sys.argv[1:]
-    if not words or words[0] != "--try" and len(words) > 1 or len(words) > 3 or not all(map(str.isdigit, words[1:])):
+    numbers = [int(word) for word in words[1:] if word.isdigit()]
+    few = words[:1] == ["--try"] and words[1:] == ["--few"]
+    known = len(numbers) == len(words) - 1 if words[:1] == ["--try"] else len(words) == 1
+    if not (known or few) or len(numbers) > 2:
         sys.exit(__doc__)
     with tempfile.TemporaryDirectory() as folder:
-        if words[0] == "--try":
-            first, last = (list(map(int, words[1:])) + [1, 100000][len(words) - 1:])[:2]
-            well = by_trying(folder, first, last)
+        if words[0] == "--try" and numbers:
+            first, last = (numbers + [100000])[:2]
+            well = by_trying(folder, range(first, last + 1), 1, 3)
+        elif words[0] == "--try":
+            well = by_trying(folder, range(1, 100000, 29 if few else 1), BLOCK, 2 if few else 50)
         elif words[0] == "--memory":
             well = in_memory(folder)
         else:
