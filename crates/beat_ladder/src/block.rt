@@ -15,7 +15,7 @@ use sil_model::Steps;
 use std::sync::ledger::Ledger;
 
 /// One tick in place; `next` is room for it.
-fn step<T: Tick, L: Ledger>(tick: &T, now: &mut [u128], next: &mut [u128], steps: &mut Steps<L>)
+fn step<T: Tick, L: Ledger>(tick: &T, now: &mut [u64], next: &mut [u64], steps: &mut Steps<L>)
     requires now { length now.old ≡ T.size tick.now }
     requires next { length next.old ≡ T.size tick.now }
     requires mass { IsMass now.old }
@@ -32,9 +32,9 @@ fn step<T: Tick, L: Ledger>(tick: &T, now: &mut [u128], next: &mut [u128], steps
 fn early_ticks<T: Tick, L: Ledger>(
     tick: &T,
     count: usize,
-    now: &mut [u128],
-    next: &mut [u128],
-    sums: &mut [u128],
+    now: &mut [u64],
+    next: &mut [u64],
+    sums: &mut [u64],
     steps: &mut Steps<L>,
 )
     requires now { length now.old ≡ T.size tick.now }
@@ -54,10 +54,9 @@ fn early_ticks<T: Tick, L: Ledger>(
 }
 
 /// Adds what was added up before the first number of a rung, times the tail that weighs it; nothing, where no tick was made.
-fn add_early<L: Ledger>(rung: &Rung, early: &[u128], stays: &mut [u128], steps: &mut Steps<L>)
+fn add_early<L: Ledger>(rung: &Rung, early: &[u64], stays: &mut [u128], steps: &mut Steps<L>)
     requires size { length stays.old ≡ length early.now }
     requires none { rung.now.low ≡ 0 → sum early.now ≡ 0 }
-    requires mass { sum early.now < 2 ^ 64 }
     requires room { sum stays.old + rung.now.flat * sum early.now < 2 ^ 128 }
     ensures added { IsSumWith rung.now.flat stays.old early.now stays.new }
     ensures steps { steps.new ≤ steps.old + rung.now.low * length early.now }
@@ -74,9 +73,9 @@ fn add_early<L: Ledger>(rung: &Rung, early: &[u128], stays: &mut [u128], steps: 
 pub fn gather<T: Tick, L: Ledger>(
     tick: &T,
     rung: &Rung,
-    now: &mut [u128],
-    next: &mut [u128],
-    early: &mut [u128],
+    now: &mut [u64],
+    next: &mut [u64],
+    early: &mut [u64],
     ends: &mut [u128],
     stays: &mut [u128],
     steps: &mut Steps<L>,

@@ -17,9 +17,9 @@ use std::sync::ledger::Ledger;
 /// Room for blocks of beats of vectors up to a size. Contracts see it as the size.
 #[derive(Drop)]
 pub struct BlockRoom {
-    now: Vec<u128>,
-    next: Vec<u128>,
-    early: Vec<u128>,
+    now: Vec<u64>,
+    next: Vec<u64>,
+    early: Vec<u64>,
     ends: Vec<u128>,
     stays: Vec<u128>,
 }
@@ -40,9 +40,9 @@ impl BlockRoom {
     pub fn new(alloc: Global, size: usize) -> Result<BlockRoom, AllocError>
         ensures { IfOk result (λ w. w ≡ size) }
     {
-        let now = vec![in alloc; 0u128; size]?;
-        let next = vec![in alloc; 0u128; size]?;
-        let early = vec![in alloc; 0u128; size]?;
+        let now = vec![in alloc; 0u64; size]?;
+        let next = vec![in alloc; 0u64; size]?;
+        let early = vec![in alloc; 0u64; size]?;
         let ends = vec![in alloc; 0u128; size]?;
         let stays = vec![in alloc; 0u128; size]?;
         Ok(BlockRoom {
@@ -60,7 +60,7 @@ impl BlockRoom {
         &mut self,
         tick: &T,
         rung: &Rung,
-        v: &mut [u128],
+        v: &mut [u64],
         dwell: &mut [u128],
         steps: &mut Steps<L>,
     )
@@ -104,12 +104,12 @@ impl BlockRoom {
 fn pass_within<T: Tick, L: Ledger>(
     tick: &T,
     rung: &Rung,
-    now: &mut [u128],
-    next: &mut [u128],
-    early: &mut [u128],
+    now: &mut [u64],
+    next: &mut [u64],
+    early: &mut [u64],
     ends: &mut [u128],
     stays: &mut [u128],
-    v: &mut [u128],
+    v: &mut [u64],
     dwell: &mut [u128],
     steps: &mut Steps<L>,
 )

@@ -84,8 +84,8 @@ impl Tick for Channel {
 
     ghost products = { λ c. 1 };
 
-    fn tick<L: Ledger>(&self, from: &[u128], to: &mut [u128], steps: &mut Steps<L>) {
-        to[0] = (u128::from(self.stays) * from[0]) >> 48;
+    fn tick<L: Ledger>(&self, from: &[u64], to: &mut [u64], steps: &mut Steps<L>) {
+        to[0] = ((u128::from(self.stays) * u128::from(from[0])) >> 48) as u64;
         steps.count_one();
     }
 }
@@ -106,7 +106,7 @@ fn pass<L: Ledger>(rt: &(impl Abort + AllocGlobal), blank: Blank) -> Result<(), 
         let channel = Channel {
             stays: ONE - (ONE >> exponent),
         };
-        let mut v = [1u128 << 48];
+        let mut v = [1u64 << 48];
         let mut dwell = [5u128];
         room.pass(
             &channel,
@@ -115,9 +115,10 @@ fn pass<L: Ledger>(rt: &(impl Abort + AllocGlobal), blank: Blank) -> Result<(), 
             &mut dwell,
             &mut steps,
         );
-        assert!(rt; v[0] <= works, "end by the rung {exponent}");
+        let end = u128::from(v[0]);
+        assert!(rt; end <= works, "end by the rung {exponent}");
         assert!(rt;
-            works - v[0] <= 200 * beats,
+            works - end <= 200 * beats,
             "end by the rung {exponent} lacks"
         );
         let most = 5 + beats * (worked + 1);

@@ -25,7 +25,7 @@ pub trait Tick {
     ghost products: { Self → ℕ };
 
     /// The vector after a tick.
-    fn tick<L: Ledger>(&self, from: &[u128], to: &mut [u128], steps: &mut Steps<L>)
+    fn tick<L: Ledger>(&self, from: &[u64], to: &mut [u64], steps: &mut Steps<L>)
         requires from { length from.now ≡ size self.now }
         requires to { length to.old ≡ size self.now }
         requires mass { IsMass from.now }

@@ -16,7 +16,7 @@ fn pass_rung<T: Tick, L: Ledger>(
     tick: &T,
     rung: &Rung,
     times: u64,
-    v: &mut [u128],
+    v: &mut [u64],
     dwell: &mut [u128],
     steps: &mut Steps<L>,
 )
@@ -41,7 +41,7 @@ pub fn pass_blocks<T: Tick, L: Ledger>(
     room: &mut BlockRoom,
     tick: &T,
     beats: u64,
-    v: &mut [u128],
+    v: &mut [u64],
     dwell: &mut [u128],
     steps: &mut Steps<L>,
 ) -> u64

@@ -78,8 +78,16 @@ fn total(v: &[u128]) -> u128
     v.iter().sum()
 }
 
+/// The mass of a vector over places.
+fn mass(v: &[u64]) -> u64
+    requires { sum v.now < 2 ^ 64 }
+    ensures { result ≡ sum v.now }
+{
+    v.iter().sum()
+}
+
 /// Whether in so many beats a vector and its dwell have lost at most half of what they may.
-fn loses_little(before: &[u128], after: &[u128], dwelt: &[u128], beats: u64, loss: u128) -> bool
+fn loses_little(before: &[u128], after: &[u64], dwelt: &[u128], beats: u64, loss: u128) -> bool
     requires before { sum before.now ≤ 2 ^ 48 }
     requires after { sum after.now ≤ 2 ^ 48 }
     requires dwelt { sum dwelt.now ≤ beats * 2 ^ 48 }
@@ -89,7 +97,7 @@ fn loses_little(before: &[u128], after: &[u128], dwelt: &[u128], beats: u64, los
 {
     let beats = u128::from(beats);
     let before = total(before);
-    let lost = before.saturating_sub(total(after));
+    let lost = before.saturating_sub(u128::from(mass(after)));
     let lacks = (beats * before).saturating_sub(total(dwelt));
     2 * lost <= beats * loss && 2 * lacks <= beats * beats * loss
 }
@@ -102,7 +110,7 @@ fn pass_over_chosen<L: Ledger>(
     blocks: &mut BlockRoom,
     beats: u64,
     events: u64,
-    small: &mut [u128],
+    small: &mut [u64],
     small_dwell: &mut [u128],
     v: &mut [u128],
     dwell: &mut [u128],
@@ -135,7 +143,7 @@ fn pass_over_chosen<L: Ledger>(
         return false;
     }
     chosen.scatter(small, v);
-    chosen.scatter(small_dwell, dwell);
+    chosen.scatter_dwell(small_dwell, dwell);
     true
 }
 
@@ -150,7 +158,7 @@ pub fn pass_over_few<L: Ledger>(
     blocks: &mut BlockRoom,
     beats: u64,
     events: u64,
-    small: &mut [u128],
+    small: &mut [u64],
     small_dwell: &mut [u128],
     v: &mut [u128],
     dwell: &mut [u128],

@@ -19,7 +19,7 @@ pub fn pass_over<L: Ledger>(
     ladder: &Ladder,
     blocks: &mut BlockRoom,
     beats: u64,
-    small: &mut [u128],
+    small: &mut [u64],
     small_dwell: &mut [u128],
     v: &mut [u128],
     dwell: &mut [u128],
@@ -48,6 +48,6 @@ pub fn pass_over<L: Ledger>(
     small_dwell.fill(0);
     let left = pass_blocks(ladder, blocks, reached, beats, small, small_dwell, steps);
     reached.scatter(small, v);
-    reached.scatter(small_dwell, dwell);
+    reached.scatter_dwell(small_dwell, dwell);
     left
 }

@@ -24,7 +24,7 @@ pub struct PlaceRoom {
     reached: ReachedChain,
     chosen: ReachedChain,
     blocks: BlockRoom,
-    v: Vec<u128>,
+    v: Vec<u64>,
     dwell: Vec<u128>,
 }
 
@@ -51,7 +51,7 @@ impl PlaceRoom {
         let reached = ReachedChain::new(alloc, l, chain)?;
         let chosen = ReachedChain::new(alloc, l, chain)?;
         let blocks = BlockRoom::new(alloc, size)?;
-        let v = vec![in alloc; 0u128; size]?;
+        let v = vec![in alloc; 0u64; size]?;
         let dwell = vec![in alloc; 0u128; size]?;
         Ok(PlaceRoom {
             events,

@@ -11,11 +11,12 @@ ghost use Rattle.product_chain.specs.Weights.{weight_of};
 ghost use Rattle.reached_chain.specs.Reached.{AreInOrder, AreNoMore, IsWithin, IsGatheredFrom, at_places, step_of_places, tick_loss_of};
 
 use crate::closure::{mark_reached, mark_support};
+use crate::column::gather;
 use crate::compact::{compact, list_places};
 use crate::estimate::mark_heavy;
 use beat_ladder::Tick;
 use common_cause::events;
-use product_chain::{Chain, Entry, gather};
+use product_chain::{Chain, Entry};
 use sil_model::{Loop, Steps};
 use std::alloc::{AllocError, Global};
 use std::marker::Model;
@@ -164,8 +165,9 @@ impl ReachedChain {
 
     /// Takes the numbers of a vector at the places, which weigh no more than the vector. One that holds nothing elsewhere keeps
     /// its mass and its weight.
-    pub fn gather(&self, v: &[u128], small: &mut [u128])
+    pub fn gather(&self, v: &[u128], small: &mut [u64])
         requires v { length v.now ≡ states_of self.now.chain.of.subsystems }
+        requires mass { sum v.now ≤ 2 ^ 48 }
         requires small { length small.old ≡ length self.now.places }
         ensures gathered { IsGatheredFrom self.now.places v.now small.new }
         ensures most { sum small.new ≤ sum v.now }
@@ -177,7 +179,7 @@ impl ReachedChain {
     }
 
     /// Puts the numbers at the places back. Elsewhere the vector holds nothing.
-    pub fn scatter(&self, small: &[u128], v: &mut [u128])
+    pub fn scatter(&self, small: &[u64], v: &mut [u128])
         requires v { length v.old ≡ states_of self.now.chain.of.subsystems }
         requires small { length small.now ≡ length self.now.places }
         ensures gathered { IsGatheredFrom self.now.places v.new small.now }
@@ -188,12 +190,22 @@ impl ReachedChain {
         put_at(self.places.as_slice(), small, v);
     }
 
+    /// Puts the numbers of a dwell at the places back. Elsewhere it holds nothing.
+    pub fn scatter_dwell(&self, small: &[u128], dwell: &mut [u128])
+        requires dwell { length dwell.old ≡ states_of self.now.chain.of.subsystems }
+        requires small { length small.now ≡ length self.now.places }
+        ensures gathered { IsGatheredFrom self.now.places dwell.new small.now }
+        ensures within { IsWithin self.now.places dwell.new }
+    {
+        put_dwell_at(self.places.as_slice(), small, dwell);
+    }
+
     /// One tick over the places: each number is the sum of all numbers, each times the weight of its way here, rounded down
     /// once.
     ///
     /// By every value list over the places the vector then weighs at most what the list after a step weighed before. It loses
     /// at most what a tick over all count vectors loses, where the places are closed.
-    pub fn tick<L: Ledger>(&self, from: &[u128], to: &mut [u128], steps: &mut Steps<L>)
+    pub fn tick<L: Ledger>(&self, from: &[u64], to: &mut [u64], steps: &mut Steps<L>)
         requires from { length from.now ≡ length self.now.places }
         requires to { length to.old ≡ length self.now.places }
         requires mass { sum from.now ≤ 2 ^ 48 }
@@ -225,24 +237,25 @@ impl Tick for ReachedChain {
 
     ghost products = { λ r. r.entries };
 
-    fn tick<L: Ledger>(&self, from: &[u128], to: &mut [u128], steps: &mut Steps<L>) {
+    fn tick<L: Ledger>(&self, from: &[u64], to: &mut [u64], steps: &mut Steps<L>) {
         ReachedChain::tick(self, from, to, steps);
     }
 }
 
 /// Takes the numbers at the places.
-fn take_at(places: &[u32], v: &[u128], small: &mut [u128])
+fn take_at(places: &[u32], v: &[u128], small: &mut [u64])
+    requires mass { sum v.now ≤ 2 ^ 48 }
     requires below { (k : ℕ) → k < length places.now → slice_index places.now k < length v.now }
     requires small { length small.old ≡ length places.now }
     ensures { IsGatheredFrom places.now v.now small.new }
 {
     for k in 0..places.len() {
-        small[k] = v[places[k] as usize];
+        small[k] = v[places[k] as usize] as u64;
     }
 }
 
 /// Puts numbers at the places, and 0 elsewhere.
-fn put_at(places: &[u32], small: &[u128], v: &mut [u128])
+fn put_at(places: &[u32], small: &[u64], v: &mut [u128])
     requires below { (k : ℕ) → k < length places.now → slice_index places.now k < length v.old }
     requires rising { (k l : ℕ) → k < l → l < length places.now → slice_index places.now k < slice_index places.now l }
     requires small { length small.now ≡ length places.now }
@@ -251,6 +264,20 @@ fn put_at(places: &[u32], small: &[u128], v: &mut [u128])
 {
     v.fill(0);
     for k in 0..places.len() {
-        v[places[k] as usize] = small[k];
+        v[places[k] as usize] = u128::from(small[k]);
+    }
+}
+
+/// Puts the numbers of a dwell at the places, and 0 elsewhere.
+fn put_dwell_at(places: &[u32], small: &[u128], dwell: &mut [u128])
+    requires below { (k : ℕ) → k < length places.now → slice_index places.now k < length dwell.old }
+    requires rising { (k l : ℕ) → k < l → l < length places.now → slice_index places.now k < slice_index places.now l }
+    requires small { length small.now ≡ length places.now }
+    ensures gathered { IsGatheredFrom places.now dwell.new small.now }
+    ensures within { IsWithin places.now dwell.new }
+{
+    dwell.fill(0);
+    for k in 0..places.len() {
+        dwell[places[k] as usize] = small[k];
     }
 }

@@ -1,6 +1,6 @@
 //! Places that were counted apart, and ticks over them against ticks over all count vectors.
 
-ghost use Rattle.std.specs.Prelude.{◌≡◌, ◌<◌, ◌≤◌, ◌^◌, sum, vec_len, IfOk};
+ghost use Rattle.std.specs.Prelude.{◌≡◌, ◌<◌, ◌≤◌, ◌^◌, length, sum, vec_len, IfOk};
 ghost use Rattle.sil_model.specs.Sizes.{states_of};
 ghost use Rattle.reached_chain.specs.Reached.{IsWithin};
 
@@ -64,8 +64,8 @@ fn tick_both<L: Ledger>(
     ensures mass { sum v.new.items ≤ 2 ^ 48 }
     ensures within { IsWithin reached.now.places v.new.items }
 {
-    let mut from = vec![in alloc; 0u128; reached.size()]?;
-    let mut to = vec![in alloc; 0u128; reached.size()]?;
+    let mut from = vec![in alloc; 0u64; reached.size()]?;
+    let mut to = vec![in alloc; 0u64; reached.size()]?;
     let mut next = vec![in alloc; 0u128; v.len()]?;
     reached.gather(v, &mut from);
     reached.tick(&from, &mut to, steps);
@@ -75,13 +75,42 @@ fn tick_both<L: Ledger>(
     Ok(())
 }
 
-/// Three subsystems of 20, 4 and 10 count vectors, so 800 in all, and as many places from one of them.
+/// A tick over chosen places leaves nowhere more than one over all count vectors.
+fn tick_over_chosen<L: Ledger>(
+    rt: &impl Abort,
+    alloc: Global,
+    chain: &Chain,
+    chosen: &ReachedChain,
+    v: &[u128],
+    steps: &mut Steps<L>,
+) -> Result<(), Fail>
+    requires chain { chosen.now.chain ≡ chain.now }
+    requires size { length v.now ≡ states_of chain.now.of.subsystems }
+    requires mass { sum v.now ≤ 2 ^ 48 }
+{
+    let mut from = vec![in alloc; 0u64; chosen.size()]?;
+    let mut to = vec![in alloc; 0u64; chosen.size()]?;
+    let mut after = vec![in alloc; 0u128; v.len()]?;
+    let mut next = vec![in alloc; 0u128; v.len()]?;
+    chosen.gather(v, &mut from);
+    chosen.tick(&from, &mut to, steps);
+    chosen.scatter(&to, &mut after);
+    chain.tick(v, &mut next, steps);
+    for k in 0..v.len() {
+        assert!(rt; after[k] <= next[k], "at {k}");
+    }
+    Ok(())
+}
+
+/// Three subsystems of 20, 4 and 10 count vectors, so 800 in all, and as many places from one of them; and how many of
+/// those come to hold more than nothing, than 6,000 units and than 10^9 units in 3,750 ticks.
 fn ticks<L: Ledger>(
     rt: &impl Abort,
     alloc: Global,
     blank: Blank,
     start: usize,
     places: usize,
+    heavy: [usize; 3],
 ) -> Result<(), Fail>
     requires name { blank.name ≡ L.name }
     requires parts { blank.parts ≡ L.parts }
@@ -107,6 +136,12 @@ fn ticks<L: Ledger>(
     let mut reached = ReachedChain::new(alloc, &l, &chain)?;
     reached.reach(&chain, &v);
     assert_eq!(rt; reached.size(), places);
+    let mut chosen = ReachedChain::new(alloc, &l, &chain)?;
+    for (least, number) in [0, 6000, 1_000_000_000].into_iter().zip(heavy) {
+        chosen.choose(&chain, &v, 3750, least);
+        assert_eq!(rt; chosen.size(), number);
+        tick_over_chosen(rt, alloc, &chain, &chosen, &v, &mut steps)?;
+    }
     for _ in 0..5 {
         tick_both(rt, alloc, &chain, &reached, &mut v, &mut steps)?;
     }
@@ -117,11 +152,18 @@ fn ticks<L: Ledger>(
 // into repair before a test: three of theirs are left.
 #[test]
 fn places_of_three_subsystems(rt: HostRuntime) -> Result<(), Fail> {
-    ticks::<Brand>(&rt, rt.alloc(), Blank::new(1), 0, 10 * 3 * 3)
+    ticks::<Brand>(&rt, rt.alloc(), Blank::new(1), 0, 10 * 3 * 3, [85, 74, 27])
 }
 
 // The last count vector of the valves has both in repair.
 #[test]
 fn places_after_a_test(rt: HostRuntime) -> Result<(), Fail> {
-    ticks::<Brand>(&rt, rt.alloc(), Blank::new(1), 720, 10 * 3 * 6)
+    ticks::<Brand>(
+        &rt,
+        rt.alloc(),
+        Blank::new(1),
+        720,
+        10 * 3 * 6,
+        [149, 118, 42],
+    )
 }

@@ -26,13 +26,6 @@ add_early-requires-clause-none g c none =
     rw (sum-constant c.args.rung.now.low 1) at c.early_ticks.ensures.gathered.most in
     omega (arith, rw none at most)
 
-pub add_early-requires-clause-mass : goal.add_early-requires-clause-mass
-add_early-requires-clause-mass g c =
-    let r = c.args.rung.now in
-    let low : r.low ≤ 2 ^ 13 = low_few r.exponent r.low r.numbers.items r.tails.items r.held r.tailed r.few c.requires.usable in
-    let most : sum c.early_ticks.new.sums ≤ sum c.args.now.now * (r.low * 1) = rw (sum-constant r.low 1) at c.early_ticks.ensures.gathered.most in
-    omega (arith, early_small r.low (sum c.args.now.now) (sum c.early_ticks.new.sums) low c.requires.mass most)
-
 pub add_early-requires-clause-room : goal.add_early-requires-clause-room
 add_early-requires-clause-room g c =
     let r = c.args.rung.now in

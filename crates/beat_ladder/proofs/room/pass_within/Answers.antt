@@ -6,7 +6,7 @@ use Rattle.block_laws.specs.Block.{IsGathered}
 use Rattle.beat_ladder.specs.Powers.{power_of}
 use Rattle.beat_ladder.specs.Losses.{IsStep}
 use Rattle.beat_ladder.specs.declared.rung.Rung.{Rung}
-use Rattle.beat_ladder.proofs.Tails.{tail}
+use Rattle.beat_ladder.proofs.Tails.{tail, ends_room}
 use Rattle.beat_ladder.proofs.Passes.{passed_after, passed_most, passed_least, passed_dwelt, passed_dwell_most, passed_dwell_least, passed_grows, passed_products}
 use Rattle.beat_ladder.proofs.room.pass_within.Given.{Over}
 use Rattle.beat_ladder.proofs.room.pass_within.Goals as goal
@@ -90,3 +90,14 @@ returns-clause-steps g c =
     let r = c.args.rung.now in
     passed_products (IsStep (g.T.Tick.step c.args.tick.now)) (g.T.Tick.loss c.args.tick.now) c.args.v.now r.exponent r.low r.numbers.items r.tails.items
     r.held r.tailed c.args.steps.now c.gather.new.steps (g.T.Tick.products c.args.tick.now) (g.T.Tick.size c.args.tick.now) c.gather.ensures.steps
+
+pub round_down-requires-clause-small : goal.round_down-requires-clause-small
+round_down-requires-clause-small g c =
+    let r : Rung = c.args.rung.now in
+    let gathered : IsGathered (IsStep (g.T.Tick.step c.args.tick.now)) (g.T.Tick.loss c.args.tick.now) c.args.v.now c.gather.new.ends (power_of r.exponent)
+    (r.low + length r.numbers.items) = rw c.copy_from_slice.ensures.after at c.gather.ensures.ends in
+    omega (
+      arith,
+      ends_room r.exponent r.low r.numbers.items r.tails.items r.held r.tailed (IsStep (g.T.Tick.step c.args.tick.now)) (g.T.Tick.loss c.args.tick.now)
+          c.args.v.now c.requires.mass c.gather.new.ends (r.low + length r.numbers.items) gathered,
+    )

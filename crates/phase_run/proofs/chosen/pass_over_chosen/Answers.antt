@@ -47,9 +47,9 @@ returns-clause-passes g c done =
     let passed : PassesBy (IsStep (step_of_places r)) 16 (beat_loss_in_blocks (tick_loss_of r) (length r.places)) c.args.beats
     c.gather.new.small c.pass_blocks.new.v c.fill.new.self c.pass_blocks.new.dwell = rw left at c.pass_blocks.ensures.passes in
     passes_taken r placed c.args.beats (beat_loss_in_blocks (tick_loss_of r) (length r.places)) c.args.v.now c.gather.new.small c.scatter.new.v c.pass_blocks.new.v
-    c.args.dwell.now c.fill.new.self c.scatter-2.new.v c.pass_blocks.new.dwell
+    c.args.dwell.now c.fill.new.self c.scatter_dwell.new.dwell c.pass_blocks.new.dwell
     (record { size = c.requires.v; gathered = c.gather.ensures.gathered })
     (record { taken = record { size = c.scatter.auto.v ∙ c.requires.v; gathered = c.scatter.ensures.gathered }; within = c.scatter.ensures.within })
     begun
-    (record { taken = record { size = c.scatter-2.auto.v ∙ c.requires.dwell; gathered = c.scatter-2.ensures.gathered }; within = c.scatter-2.ensures.within })
+    (record { taken = record { size = c.scatter_dwell.auto.dwell ∙ c.requires.dwell; gathered = c.scatter_dwell.ensures.gathered }; within = c.scatter_dwell.ensures.within })
     c.requires.mass c.requires.none passed c.gather.ensures.most (rw loss at (c.if-not-loses_little.ensures done))

@@ -25,9 +25,9 @@ returns-clause-passes g c =
       within = λ i h o. c.requires.none i h;
     } in
     passes_scattered r placed c.requires.closed (c.args.beats - c.pass_blocks-left.result) c.args.v.now c.gather.new.small c.scatter.new.v c.pass_blocks-left.new.v
-    c.args.dwell.now c.fill.new.self c.scatter-2.new.v c.pass_blocks-left.new.dwell
+    c.args.dwell.now c.fill.new.self c.scatter_dwell.new.dwell c.pass_blocks-left.new.dwell
     (record { taken = record { size = c.requires.v; gathered = c.gather.ensures.gathered }; within = c.requires.within })
     (record { taken = record { size = c.scatter.auto.v ∙ c.requires.v; gathered = c.scatter.ensures.gathered }; within = c.scatter.ensures.within })
     begun
-    (record { taken = record { size = c.scatter-2.auto.v ∙ c.requires.dwell; gathered = c.scatter-2.ensures.gathered }; within = c.scatter-2.ensures.within })
+    (record { taken = record { size = c.scatter_dwell.auto.dwell ∙ c.requires.dwell; gathered = c.scatter_dwell.ensures.gathered }; within = c.scatter_dwell.ensures.within })
     c.requires.mass c.requires.none c.pass_blocks-left.ensures.passes

@@ -1,0 +1,44 @@
+//! A tick of a vector over the places.
+
+ghost use Rattle.std.specs.Prelude.{◌≡◌, ℕ, ◌+◌, ◌/◌, ◌<◌, ◌≤◌, ◌^◌, length, slice_index, sum, All};
+ghost use Rattle.product_chain.specs.Columns.{AreWeighted, part, given};
+
+use interval_fixed::Dot;
+use product_chain::Entry;
+use sil_model::Steps;
+use std::sync::ledger::Ledger;
+
+/// Sets each number of `to` to what `from` gives to its column, rounded down: one multiplication for each entry.
+pub fn gather<L: Ledger>(
+    entries: &[Entry],
+    starts: &[usize],
+    from: &[u64],
+    to: &mut [u64],
+    steps: &mut Steps<L>,
+)
+    requires columns { AreWeighted (length to.old) (length from.now) starts.now entries.now }
+    requires mass { sum from.now ≤ 2 ^ 48 }
+    ensures floors { (j : ℕ) → j < length to.new → slice_index to.new j ≡ given (λ i. slice_index from.now i) (part starts.now entries.now j) / 2 ^ 48 }
+    ensures steps { steps.new ≡ steps.old + length entries.now }
+{
+    for j in 0..to.len() {
+        to[j] = gathered(&entries[starts[j]..starts[j + 1]], from, steps);
+    }
+}
+
+/// What a vector gives to one column, rounded down.
+fn gathered<L: Ledger>(column: &[Entry], from: &[u64], steps: &mut Steps<L>) -> u64
+    requires few { length column.now ≤ 4097 }
+    requires sources { All (λ e. e.source < length from.now) column.now }
+    requires weights { All (λ e. e.weight ≤ 2 ^ 48) column.now }
+    requires mass { sum from.now ≤ 2 ^ 48 }
+    ensures floor { result ≡ given (λ i. slice_index from.now i) column.now / 2 ^ 48 }
+    ensures steps { steps.new ≡ steps.old + length column.now }
+{
+    let mut sum = Dot::new();
+    for entry in column {
+        let number = from[entry.source as usize];
+        sum.add_product(u128::from(entry.weight), u128::from(number), steps);
+    }
+    sum.down() as u64
+}
