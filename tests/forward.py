@@ -234,7 +234,7 @@ class Mission:
         self.in_order = sorted(range(len(self.states)), key=lambda number: self.lumped.number_of(self.states[number]))
 
     def columns(self, hours, beats):
-        """For each state the sources of one tick and their weights, in two lists; the last is what stays."""
+        """For each state the sources of one tick and their weights, in two lists."""
         columns = [([], []) for _ in self.states]
         for number, events in enumerate(self.events):
             taken = 0
@@ -279,7 +279,7 @@ class Mission:
         def flow(number):
             sources, weights = columns[number]
             comes = sum(masses[source] * weight for source, weight in zip(sources, weights) if source != number)
-            return comes >> 24, weights[-1]
+            return comes >> 24, sum(weight for source, weight in zip(sources, weights) if source == number)
 
         for _ in range(2):
             for number in self.in_order:
