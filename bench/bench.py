@@ -3,11 +3,11 @@
 
 usage: bench/bench.py PROGRAM [RUNS]        for example: bench/bench.py ./sil 5
 
-Time and peak memory are those of the whole program, from start to end, the best of so many runs (5, if not said). Products
-and ticks are counted here, apart from the program, by the method that docs/MODEL.md describes: of each phase the binary
-digits of its beats, of each block of beats the ticks of its rung, of each tick the ways that have a rate between count
-vectors that are reached; where a phase goes by the powers of its beat, one beat from each count vector and the products of
-matrices. No figure is a test. Standard library only.
+Time and peak memory are those of the whole program, from start to end, the best of so many runs (5, if not said). Places,
+ticks and products are counted here, apart from the program, by the method that docs/MODEL.md describes, which is run for
+it and takes a minute: of each phase the binary digits of its beats, of each block of beats the ticks of its rung, of each
+tick the ways with a weight between the count vectors that the phase goes over; where a phase goes by the powers of its
+beat, one beat from each count vector and the products of matrices. No figure is a test. Standard library only.
 """
 import subprocess
 import sys
@@ -18,7 +18,7 @@ from pathlib import Path
 
 TOP = Path(__file__).resolve().parent.parent
 sys.path.insert(0, str(TOP / "tests"))
-from forward import Ladder, Lumped, series_weights  # noqa: E402
+from forward import Mission  # noqa: E402
 from loop_reader import read_loop  # noqa: E402
 
 LARGEST_WORK = """version = 1
@@ -41,24 +41,6 @@ repair = 4
 """
 
 
-def reached(lumped):
-    """How many count vectors are reached, and how many ways with a rate lead between them, each to itself too."""
-    start = tuple((size, 0, 0, 0) for _, _, size in lumped.groups)
-    seen, left, ways = {start}, [start], 0
-    while left:
-        state = left.pop()
-        targets = {target for target, _, _ in lumped.events(state)}
-        for g, (subsystem, _, _) in enumerate(lumped.groups):
-            if subsystem.test is not None:
-                targets |= {after for _, after in lumped.tested(state, g, True)}
-                targets |= {after for _, after in lumped.tested(state, g, False)}
-        ways += 1 + len({target for target, _, _ in lumped.events(state)})
-        for target in targets - seen:
-            seen.add(target)
-            left.append(target)
-    return len(seen), ways
-
-
 def all_ways(lumped):
     """How many ways with a rate lead between all count vectors, and to each of them from itself."""
     shares = [[(n - i, i - j, j - k, k) for i in range(n + 1) for j in range(i + 1) for k in range(j + 1)]
@@ -66,30 +48,45 @@ def all_ways(lumped):
     return sum(1 + len({target for target, _, _ in lumped.events(state)}) for state in product(*shares))
 
 
+class Counted(Mission):
+    """The method, with a count of its ticks and products, and of the most count vectors that a phase goes over."""
+
+    def __init__(self, loop):
+        self.ticks = self.products = self.places = 0
+        super().__init__(loop)
+
+    def count(self, low, numbers, places, ways):
+        ticks = low + len(numbers) - 1
+        self.ticks += ticks
+        # The last tail is 0, and before the first number nothing is weighed if there is no tick.
+        self.products += ticks * ways + (2 * len(numbers) - (low == 0)) * places
+
+    def pass_over(self, vector, chain, beats):
+        places = sum(any(weights) for _, weights in chain)
+        ways = sum(weight > 0 for _, weights in chain for weight in weights)
+        self.places = max(self.places, places)
+        blocks, left = self.ladder.blocks_of(beats)
+        if not self.ladder.is_made:
+            places, ways = self.lumped.state_count, all_ways(self.lumped)
+        for _, low, numbers in blocks + [(1, 0, self.ends)] * left:
+            self.count(low, numbers, places, ways)
+        return super().pass_over(vector, chain, beats)
+
+    def powers(self, hours, beats):
+        states, self.places = self.lumped.state_count, self.lumped.state_count
+        if (hours, beats) not in self.kept:
+            for _ in range(states):
+                self.count(0, self.ends, states, all_ways(self.lumped))
+            joins = beats.bit_length() - 1 + bin(beats).count("1") - 1
+            self.products += joins * 2 * states**3
+        self.products += 2 * states**2
+        return super().powers(hours, beats)
+
+
 def counted(path):
-    lumped = Lumped(read_loop(path))
-    ladder = Ladder(lumped)
-    beat = (1, 0, series_weights(lumped.loop.order)[0])
-    size, ways = reached(lumped)
-    ticks = products = 0
-    kept = None
-    for phase in lumped.phases:
-        beats = phase[1]
-        if lumped.passes_by_powers(beats):
-            states, made = lumped.state_count, len(beat[2]) - 1
-            if phase != kept:
-                joins = beats.bit_length() - 1 + bin(beats).count("1") - 1
-                ticks += states * made
-                products += made * states * all_ways(lumped) + 2 * states**2 * len(beat[2]) + joins * 2 * states**3
-                kept = phase
-            products += 2 * states**2
-            continue
-        blocks, left = ladder.blocks_of(beats)
-        for _, low, numbers in blocks + [beat] * left:
-            made = low + len(numbers) - 1
-            ticks += made
-            products += made * ways + 2 * len(numbers) * size
-    return lumped, size, ticks, products
+    mission = Counted(read_loop(path))
+    mission.compute()
+    return mission
 
 
 def timed(program, path):
@@ -113,13 +110,13 @@ def main():
         paths = [TOP / "examples/one-channel.toml", TOP / "examples/three-subsystems.toml",
                  TOP / "tests/larger/generated-7.toml", TOP / "tests/larger/eleven-channels.toml",
                  TOP / "tests/loops/hourly-tests.toml", largest]
-        print(f"{'loop':22} {'states':>6} {'reached':>7} {'beats':>7} {'ticks':>8} {'products':>12} "
+        print(f"{'loop':22} {'states':>6} {'places':>7} {'beats':>7} {'ticks':>8} {'products':>12} "
               f"{'ms':>9} {'ns/product':>10} {'kB':>6}")
         for path in paths:
-            lumped, size, ticks, products = counted(path)
+            method = counted(path)
             best = min(timed(program, str(path)) for _ in range(runs))
-            print(f"{path.stem:22} {lumped.state_count:6} {size:7} {lumped.beats:7} {ticks:8} {products:12} "
-                  f"{best[0] * 1e3:9.2f} {best[0] * 1e9 / products:10.2f} {best[1]:6}")
+            print(f"{path.stem:22} {method.lumped.state_count:6} {method.places:7} {method.lumped.beats:7} {method.ticks:8} "
+                  f"{method.products:12} {best[0] * 1e3:9.2f} {best[0] * 1e9 / method.products:10.2f} {best[1]:6}")
 
 
 main()

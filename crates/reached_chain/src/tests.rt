@@ -8,7 +8,7 @@ use crate::ReachedChain;
 use lumping::Space;
 use product_chain::Chain;
 use sample_loops::{Sample, sample_loop};
-use sil_model::{ChannelFigures, InRepair, Steps, Vote};
+use sil_model::{ChannelFigures, InRepair, Loop, Steps, Vote};
 use std::alloc::Global;
 use std::marker::Brand;
 use std::process::Abort;
@@ -75,19 +75,25 @@ fn tick_both<L: Ledger>(
     Ok(())
 }
 
-/// A tick over chosen places leaves nowhere more than one over all count vectors.
+/// So many places come to hold more than `least` in 3,750 ticks, and a tick over these leaves nowhere more than one over all
+/// count vectors.
 fn tick_over_chosen<L: Ledger>(
     rt: &impl Abort,
     alloc: Global,
+    l: &Loop,
     chain: &Chain,
-    chosen: &ReachedChain,
     v: &[u128],
+    least: u64,
+    places: usize,
     steps: &mut Steps<L>,
 ) -> Result<(), Fail>
-    requires chain { chosen.now.chain ≡ chain.now }
+    requires chain { l.now ≡ chain.now.of }
     requires size { length v.now ≡ states_of chain.now.of.subsystems }
     requires mass { sum v.now ≤ 2 ^ 48 }
 {
+    let mut chosen = ReachedChain::new(alloc, l, chain)?;
+    chosen.choose(chain, v, 3750, least);
+    assert_eq!(rt; chosen.size(), places);
     let mut from = vec![in alloc; 0u64; chosen.size()]?;
     let mut to = vec![in alloc; 0u64; chosen.size()]?;
     let mut after = vec![in alloc; 0u128; v.len()]?;
@@ -136,12 +142,19 @@ fn ticks<L: Ledger>(
     let mut reached = ReachedChain::new(alloc, &l, &chain)?;
     reached.reach(&chain, &v);
     assert_eq!(rt; reached.size(), places);
-    let mut chosen = ReachedChain::new(alloc, &l, &chain)?;
-    for (least, number) in [0, 6000, 1_000_000_000].into_iter().zip(heavy) {
-        chosen.choose(&chain, &v, 3750, least);
-        assert_eq!(rt; chosen.size(), number);
-        tick_over_chosen(rt, alloc, &chain, &chosen, &v, &mut steps)?;
-    }
+    let [more_than_nothing, heavier, heaviest] = heavy;
+    tick_over_chosen(rt, alloc, &l, &chain, &v, 0, more_than_nothing, &mut steps)?;
+    tick_over_chosen(rt, alloc, &l, &chain, &v, 6000, heavier, &mut steps)?;
+    tick_over_chosen(
+        rt,
+        alloc,
+        &l,
+        &chain,
+        &v,
+        1_000_000_000,
+        heaviest,
+        &mut steps,
+    )?;
     for _ in 0..5 {
         tick_both(rt, alloc, &chain, &reached, &mut v, &mut steps)?;
     }
