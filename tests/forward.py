@@ -281,11 +281,10 @@ class Mission:
             comes = sum(masses[source] * weight for source, weight in zip(sources, weights) if source != number)
             return comes >> 24, sum(weight for source, weight in zip(sources, weights) if source == number)
 
-        for _ in range(2):
-            for number in self.in_order:
-                comes, stays = flow(number)
-                held = min(ticks, ONE // max(1, ONE - stays))
-                masses[number] = min(ONE, vector[number] + (comes * held >> 24))
+        for number in self.in_order + self.in_order[::-1]:
+            comes, stays = flow(number)
+            held = min(ticks, ONE // max(1, ONE - stays))
+            masses[number] = min(ONE, vector[number] + (comes * held >> 24))
         return {number for number, x in enumerate(vector) if x + (flow(number)[0] * ticks >> 24) > least}
 
     def chosen(self, vector, columns, beats, reached):

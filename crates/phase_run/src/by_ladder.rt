@@ -1,4 +1,4 @@
-//! The beats of a phase by a ladder, over the places that hold mass.
+//! The beats of a phase by a ladder, over places that hold mass.
 
 ghost use Rattle.std.specs.Prelude.{◌≡◌, ℕ, ◌+◌, ◌*◌, ◌^◌, ◌<◌, ◌≤◌, length, sum, slice_index, All};
 ghost use Rattle.sil_fraction.specs.Fraction.{◌+ℚ◌, ◌*ℚ◌, ◌≤ℚ◌, whole, ratio};
@@ -18,9 +18,10 @@ use sil_model::Steps;
 use std::sync::ledger::Ledger;
 use uniformise::Workspace;
 
-/// Runs the beats of a phase of so many hours by the rungs of a ladder, over the places that the vector reaches, and those
-/// that are left one by one: `v` becomes lower bounds of the vector at its end, `mean` lower bounds of its mean over the phase, and `dwell_hours` grows by lower bounds
-/// of hours times that mean. All are in units of 2^-48.
+/// Runs the beats of a phase of so many hours by the rungs of a ladder, over places that come to hold enough or all that the
+/// vector reaches; where the ladder has no rung, one by one. `v` becomes lower bounds of the vector at its end, `mean` lower
+/// bounds of its mean over the phase, and `dwell_hours` grows by lower bounds of hours times that mean. All are in units of
+/// 2^-48.
 #[allow(clippy::too_many_arguments)]
 pub fn run_phase_by_ladder<L: Ledger>(
     ladder: &Ladder,

@@ -189,7 +189,7 @@ pub fn pass_over_few<L: Ledger>(
     if beats < LEAST_BEATS || ladder.rungs() == 0 {
         return false;
     }
-    // The ladder takes at most about a tick and a quarter for each beat of a long phase.
+    // What flows in goes by a tick for each beat in the mean; a quarter more is a margin.
     chosen.choose(chain, v, beats + beats / 4, LEAST_MASS * beats);
     if !may_be_tried(chosen, reached, of_reached, v.len(), events) {
         return false;

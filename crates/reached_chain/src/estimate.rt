@@ -10,10 +10,6 @@ use product_chain::Entry;
 
 const ONE: u64 = 1 << 48;
 
-/// How often the estimate goes over all count vectors. A fault leads to a later one, so that one sweep follows any number of
-/// faults; the next one adds what comes of repairs.
-const SWEEPS: u32 = 2;
-
 /// What a tick brings into a count vector from others, in units of 2^-72, and how much of it stays, in units of 2^-48.
 #[derive(Clone, Copy)]
 struct Flow {
@@ -37,9 +33,8 @@ pub fn mark_heavy(
     requires masses { length masses.old ≡ length marks.old }
 {
     start_masses(v, masses);
-    for _ in 0..SWEEPS {
-        sweep(entries, starts, v, ticks, masses);
-    }
+    sweep_up(entries, starts, v, ticks, masses);
+    sweep_down(entries, starts, v, ticks, masses);
     let least = u128::from(least);
     for j in 0..marks.len() {
         let flow = flow_into(entries, starts, j, masses);
@@ -56,18 +51,43 @@ fn start_masses(v: &[u128], masses: &mut [u64])
     }
 }
 
-/// Estimates in turn the mass that each count vector comes to hold: what it holds at the start, and what flows in while, in
-/// the mean, it stays.
-fn sweep(entries: &[Entry], starts: &[usize], v: &[u128], ticks: u64, masses: &mut [u64])
+/// Estimates the masses in the order of numbers. A fault leads to a later count vector, so that this follows any number of them.
+fn sweep_up(entries: &[Entry], starts: &[usize], v: &[u128], ticks: u64, masses: &mut [u64])
     requires columns { AreWeighted (length masses.old) (length masses.old) starts.now entries.now }
     requires v { length v.now ≡ length masses.old }
 {
     for j in 0..v.len() {
-        let flow = flow_into(entries, starts, j, masses);
-        let leaves = ONE.saturating_sub(flow.stays).max(1);
-        let held = v[j].saturating_add(brought(flow, ticks.min(ONE / leaves)));
-        masses[j] = held.min(u128::from(ONE)) as u64;
+        set_mass(entries, starts, v[j], ticks, j, masses);
     }
+}
+
+/// Estimates the masses against the order of numbers. A repair leads to an earlier count vector.
+fn sweep_down(entries: &[Entry], starts: &[usize], v: &[u128], ticks: u64, masses: &mut [u64])
+    requires columns { AreWeighted (length masses.old) (length masses.old) starts.now entries.now }
+    requires v { length v.now ≡ length masses.old }
+{
+    for j in (0..v.len()).rev() {
+        set_mass(entries, starts, v[j], ticks, j, masses);
+    }
+}
+
+/// Estimates the mass that a count vector comes to hold: what it holds at the start, and what flows in while, in the mean, it
+/// stays.
+fn set_mass(
+    entries: &[Entry],
+    starts: &[usize],
+    start: u128,
+    ticks: u64,
+    target: usize,
+    masses: &mut [u64],
+)
+    requires columns { AreWeighted (length masses.old) (length masses.old) starts.now entries.now }
+    requires target { target < length masses.old }
+{
+    let flow = flow_into(entries, starts, target, masses);
+    let leaves = ONE.saturating_sub(flow.stays).max(1);
+    let held = start.saturating_add(brought(flow, ticks.min(ONE / leaves)));
+    masses[target] = held.min(u128::from(ONE)) as u64;
 }
 
 /// What flows into a count vector in a tick.

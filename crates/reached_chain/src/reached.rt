@@ -1,4 +1,4 @@
-//! The chain over the places that are reached.
+//! The chain over the places that are reached, or that are chosen.
 
 ghost use Rattle.std.specs.Prelude.{◌≡◌, ℕ, true, false, [], ◌+◌, ◌*◌, ◌/◌, ◌^◌, ◌<◌, ◌≤◌, length, sum, slice_index, IfOk};
 ghost use Rattle.sil_fraction.specs.Fraction.{◌≤ℚ◌};
@@ -54,7 +54,7 @@ impl Model for ReachedChain {
 }
 
 impl ReachedChain {
-    /// Room for what vectors reach by the chains of a loop. There is no place in it yet.
+    /// Room for the places of vectors by the chains of a loop. There is no place in it yet.
     pub fn new(alloc: Global, l: &Loop, chain: &Chain) -> Result<ReachedChain, AllocError>
         requires same { l.now ≡ chain.now.of }
         ensures { IfOk result (λ r. r ≡ record { chain = chain.now; places = []; entries = 0; closed = true }) }

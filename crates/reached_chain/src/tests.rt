@@ -165,7 +165,7 @@ fn ticks<L: Ledger>(
 // into repair before a test: three of theirs are left.
 #[test]
 fn places_of_three_subsystems(rt: HostRuntime) -> Result<(), Fail> {
-    ticks::<Brand>(&rt, rt.alloc(), Blank::new(1), 0, 10 * 3 * 3, [85, 74, 27])
+    ticks::<Brand>(&rt, rt.alloc(), Blank::new(1), 0, 10 * 3 * 3, [85, 73, 27])
 }
 
 // The last count vector of the valves has both in repair.
@@ -177,6 +177,6 @@ fn places_after_a_test(rt: HostRuntime) -> Result<(), Fail> {
         Blank::new(1),
         720,
         10 * 3 * 6,
-        [149, 118, 42],
+        [112, 78, 31],
     )
 }

@@ -1,6 +1,6 @@
 use Rattle.std.proofs.Common.{◌≡◌, length}
 use Rattle.product_chain.specs.Columns.{AreWeighted}
-use Rattle.reached_chain.proofs.estimate.sweep.Given as goal
+use Rattle.reached_chain.proofs.estimate.sweep_up.Given as goal
 
 abbrev pub invariant-loop-j : goal.invariant-loop-j
 invariant-loop-j l = record {
