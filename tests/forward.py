@@ -22,8 +22,8 @@ LAST_RUNG, MOST_MISSING = 12, 200
 SMALL_WORK, BLOCK_WORK = 16_384, 64
 # A loop of at most so many states may pass its phases by powers of the beat.
 POWERS_STATES = 64
-# In a phase of fewer beats no states are chosen; those into which a phase brings at most so much for each beat are left out.
-LEAST_BEATS, LEAST_MASS = 64, 2
+# For fewer beats no states are chosen; those into which the beats bring at most so much for each of them are left out.
+LEAST_BEATS, LEAST_MASS = 64, 16
 WORK, HIDDEN, DEEP, REPAIR = range(4)
 PFD_BANDS = ((10**17, "no SIL"), (10**16, "SIL 1"), (10**15, "SIL 2"), (10**14, "SIL 3"), (10**13, "SIL 4"))
 PFH_BANDS = tuple((lower // 10**4, name) for lower, name in PFD_BANDS)
@@ -97,6 +97,11 @@ class Ladder:
     def is_close(beats, low, numbers):
         dwell = sum((low + k) * x for k, x in enumerate(numbers))
         return ONE - sum(numbers) <= MOST_MISSING * beats and beats * ONE - dwell <= MOST_MISSING * beats * beats
+
+    def early_beats(self, beats):
+        """How many beats of a phase come before its greatest blocks; 0 where these are few, and it is passed in one part."""
+        early = beats % max([1] + [of_rung for of_rung, _, _ in self.rungs if of_rung <= beats])
+        return early if early >= LEAST_BEATS else 0
 
     def blocks_of(self, beats):
         """The blocks of a phase of so many beats, the greatest first, and how many beats are left for themselves."""
@@ -288,7 +293,7 @@ class Mission:
         return {number for number, x in enumerate(vector) if x + (flow(number)[0] * ticks >> 24) > least}
 
     def chosen(self, vector, columns, beats, reached):
-        """The states over which the blocks of a phase are tried, or `None`."""
+        """The states over which blocks of beats are tried, or `None`."""
         if beats < LEAST_BEATS or not self.ladder.is_made:
             return None
         places = self.heavy(vector, columns, beats + beats // 4, LEAST_MASS * beats)
@@ -296,7 +301,7 @@ class Mission:
                      for those in (places, reached))
         states, events = self.lumped.state_count, self.lumped.event_count()
         both = 16 * (few + many) + 33 * (len(places) + len(reached))
-        return places if 8 * few <= 7 * many and both <= states * (16 * (events + 1) + 33) else None
+        return places if 16 * few <= 15 * many and both <= states * (16 * (events + 1) + 33) else None
 
     def loses_little(self, before, after, dwell, beats):
         loss = 2 * self.lumped.event_count() + 2 * self.lumped.state_count + 200
@@ -327,8 +332,17 @@ class Mission:
         return pair
 
     def pass_blocks(self, vector, hours, beats):
-        """The blocks of a phase over chosen states, where little is lost so, and else over all that are reached."""
-        columns = self.columns(hours, beats)
+        """The beats before the greatest blocks of a phase, and these."""
+        columns, total = self.columns(hours, beats), [0] * len(vector)
+        early = self.ladder.early_beats(beats)
+        for part in (early, beats - early):
+            if part:
+                vector, dwell = self.pass_part(vector, columns, part)
+                total = [a + b for a, b in zip(total, dwell)]
+        return vector, total
+
+    def pass_part(self, vector, columns, beats):
+        """Some beats over chosen states, where little is lost so, and else over all that are reached."""
         reached = self.reached_from(vector, columns)
         places = self.chosen(vector, columns, beats, reached)
         if places is not None:

@@ -1,21 +1,16 @@
 -- The beats of a phase, one after another.
-use Rattle.std.proofs.Common.{◌≡◌, ℕ, ◌+◌, ◌*◌, ◌^◌, ◌<◌, ◌≤◌, List, length, slice_index, refl, ap, arith}
-use Rattle.std.proofs.Math.Nat.{mul-le-mul_left, pow-suc, pow-zero}
-use mathlib.Core.Path.{fun_ext}
+use Rattle.std.proofs.Common.{◌≡◌, ℕ, ◌+◌, ◌<◌, ◌≤◌, List, length, slice_index, refl}
 use Rattle.sil_fraction.specs.Fraction.{◌+ℚ◌, ◌≤ℚ◌}
 use Rattle.sil_fraction.proofs.Laws.{zero-add}
 use Rattle.sil_model.specs.Series.{Values}
 use Rattle.model_laws.specs.Polynomial.{means_of}
 use Rattle.lumped_laws.specs.ValueLists.{tick_list, beat_list, mean_list, phase_list}
 use Rattle.lumped_laws.proofs.LinearLists.{linear_laws}
-use Rattle.sil_model.specs.Budget.{beat_loss_of}
-use Rattle.sil_model.specs.declared.parts.Subsystem.{Subsystem}
 use Rattle.product_chain.specs.Kept.{ChainValue}
 use Rattle.vector_laws.specs.Vectors.{weigh}
 use Rattle.vector_laws.proofs.Weighing.{weigh-none}
 use Rattle.block_laws.specs.Block.{IsAfter, IsDwelt}
-use Rattle.block_laws.proofs.Phases.{after_more, dwelt_more}
-use Rattle.uniformise.specs.Beat.{hours_of_beat, IsStep, vector_loss}
+use Rattle.uniformise.specs.Beat.{hours_of_beat, IsStep}
 
 -- after all of them
 module _ (c : ChainValue) (order beats : ℕ) (v : List ℕ) where

@@ -3,7 +3,6 @@ use Rattle.std.proofs.Common.{◌≡◌, ℕ, ◌+◌, ◌*◌, ◌/◌, ◌^◌
 use Rattle.sil_fraction.specs.Fraction.{◌+ℚ◌, ◌*ℚ◌, ◌≤ℚ◌, whole, ratio}
 use Rattle.sil_model.specs.Series.{Values}
 use Rattle.sil_model.specs.Budget.{beat_loss_of}
-use Rattle.sil_model.specs.Sizes.{states_of}
 use Rattle.model_laws.specs.Polynomial.{means_of}
 use Rattle.lumped_laws.specs.ValueLists.{beat_list, mean_list, phase_list, phase_mean_list}
 use Rattle.vector_laws.specs.Laws.{AreFloors}

@@ -3,3 +3,4 @@ pub mod Means
 pub mod Passes
 pub mod Ends
 pub mod OverPlaces
+pub mod Parts

@@ -10,13 +10,12 @@ use Rattle.sil_model.specs.declared.parts.Subsystem.{Subsystem}
 use Rattle.vector_laws.proofs.Masses.{sum-none, place-le}
 use Rattle.product_chain.specs.Kept.{events_number}
 use Rattle.beat_ladder.specs.Losses.{IsStep}
-use Rattle.uniformise.specs.Beat.{tick_products, beat_products}
+use Rattle.uniformise.specs.Beat.{beat_products}
 use Rattle.reached_chain.specs.Reached.{ReachedValue, AreInOrder, step_of_places, tick_loss_of}
 use Rattle.reached_chain.specs.Phases.{AreTaken, AreOne, ScatteredLaw}
 use Rattle.reached_chain.proofs.Phases.{scattered_law}
 use Rattle.reached_chain.proofs.Scattered.{sum-gathered}
 use Rattle.phase_run.specs.Passes.{PassesBy, Passes, LosesLittle, beat_loss_in_blocks, block_beat_loss, beat_products_in_blocks}
-use Rattle.phase_run.proofs.Passes.{products_of_beat}
 
 -- a vector that was written over by zeros
 pub blank : (n : ℕ) (xs : List ℕ) → xs ≡ replicate n 0 → (k : ℕ) → k < length xs → slice_index xs k ≡ 0

@@ -15,7 +15,7 @@ use Rattle.block_laws.specs.Block.{IsAfter, IsDwelt}
 use Rattle.block_laws.proofs.Phases.{after_none, dwelt_none, after_more, dwelt_more}
 use Rattle.beat_ladder.specs.Losses.{block_loss, block_dwell_loss, block_products}
 use Rattle.product_chain.specs.Kept.{ChainValue}
-use Rattle.uniformise.specs.Beat.{hours_of_beat, IsStep, tick_loss, tick_products, vector_loss, dwell_loss, beat_products}
+use Rattle.uniformise.specs.Beat.{hours_of_beat, IsStep, tick_products, vector_loss, dwell_loss, beat_products}
 use Rattle.phase_run.specs.Passes.{PassesBy, Passes, beat_loss_in_blocks, block_beat_loss, beat_products_in_blocks}
 
 -- of any step

@@ -14,11 +14,11 @@ use reached_chain::ReachedChain;
 use sil_model::{Loop, Steps};
 use std::sync::ledger::Ledger;
 
-/// In a phase of fewer beats no places are chosen: that takes about as long as it saves.
-const LEAST_BEATS: u64 = 64;
+/// For fewer beats no places are chosen: that takes about as long as it saves.
+pub const LEAST_BEATS: u64 = 64;
 
-/// Places into which a phase brings at most so much for each of its beats are left out, in units of 2^-48.
-const LEAST_MASS: u64 = 2;
+/// Places into which beats bring at most so much for each of them are left out, in units of 2^-48.
+const LEAST_MASS: u64 = 16;
 
 /// How many lumped events a loop has: four for each group, and three common causes for each subsystem.
 #[tactic(auto, unfolding(sil_model::specs::Budget::lumped_events_of))]
@@ -48,7 +48,7 @@ fn may_be_tried(
         ≤ beat_products reached.now.chain.of.subsystems 16 }
 {
     let all = states as u128 * (16 * (u128::from(events) + 1) + 33);
-    8 * chosen.products() as u128 <= 7 * reached.products() as u128
+    16 * chosen.products() as u128 <= 15 * reached.products() as u128
         && products_of_beat(chosen) + of_reached <= all
 }
 

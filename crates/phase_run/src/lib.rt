@@ -6,13 +6,14 @@
 //!
 //! - `blocks`: the beats of a phase by the rungs of a ladder.
 //! - `over`: blocks over the places that are reached. `chosen`: over chosen ones, if little is lost elsewhere.
-//! - `places`: the room for both, and the choice.
+//! - `part`: the choice between both for some beats, and the room for them. `places`: a phase in two such parts.
 #![tactic(auto)]
 
 mod blocks;
 mod by_ladder;
 mod chosen;
 mod over;
+mod part;
 mod places;
 #[cfg(test)]
 mod tests;

@@ -1,16 +1,16 @@
-//! The room for the blocks of beats of a phase, over the places that hold mass.
+//! The blocks of beats of a phase, in two parts, and the room for them.
 
-ghost use Rattle.std.specs.Prelude.{◌≡◌, ℕ, ◌+◌, ◌-◌, ◌*◌, ◌<◌, ◌≤◌, length, slice_index, IfOk};
+ghost use Rattle.std.specs.Prelude.{◌≡◌, ℕ, ◌+◌, ◌-◌, ◌*◌, ◌<◌, ◌≤◌, ◌^◌, length, slice_index, All, IfOk};
 ghost use Rattle.sil_model.specs.Sizes.{states_of};
 ghost use Rattle.vector_laws.specs.Vectors.{IsMass};
+ghost use Rattle.vector_laws.specs.Laws.{IsSumWith};
 ghost use Rattle.uniformise.specs.Beat.{beat_products};
 ghost use Rattle.phase_run.specs.Passes.{Passes, block_beat_loss};
 
-use crate::chosen::{events_of, pass_over_few};
-use crate::over::pass_over;
-use beat_ladder::{BlockRoom, Ladder};
+use crate::chosen::LEAST_BEATS;
+use crate::part::PartRoom;
+use beat_ladder::Ladder;
 use product_chain::Chain;
-use reached_chain::ReachedChain;
 use sil_model::{Loop, Steps};
 use std::alloc::{AllocError, Global};
 use std::marker::Model;
@@ -20,24 +20,20 @@ use std::sync::ledger::Ledger;
 /// see it as the loop.
 #[derive(Drop)]
 pub struct PlaceRoom {
-    events: u64,
-    reached: ReachedChain,
-    chosen: ReachedChain,
-    blocks: BlockRoom,
-    v: Vec<u64>,
-    dwell: Vec<u128>,
+    part: PartRoom,
+    later: Vec<u128>,
 }
 
 impl Model for PlaceRoom {
-    ghost use Rattle.std.specs.Prelude.{vec_len};
+    ghost use Rattle.std.specs.Prelude.{◌≡◌, vec_len};
     ghost use Rattle.sil_model.specs.LoopValue.{LoopValue};
-    ghost use Rattle.phase_run.specs.Rooms.{HaveRoom};
+    ghost use Rattle.sil_model.specs.Sizes.{states_of};
 
     ghost Value = { LoopValue };
 
-    ghost view = { λ r. r.reached.chain.of };
+    ghost view = { λ r. r.part };
 
-    ghost invariant = { HaveRoom };
+    ghost invariant = { λ r. vec_len r.later ≡ states_of r.part.subsystems };
 }
 
 impl PlaceRoom {
@@ -47,26 +43,15 @@ impl PlaceRoom {
         requires size { size ≡ states_of chain.now.of.subsystems }
         ensures { IfOk result (λ r. r ≡ chain.now.of) }
     {
-        let events = events_of(l);
-        let reached = ReachedChain::new(alloc, l, chain)?;
-        let chosen = ReachedChain::new(alloc, l, chain)?;
-        let blocks = BlockRoom::new(alloc, size)?;
-        let v = vec![in alloc; 0u64; size]?;
-        let dwell = vec![in alloc; 0u128; size]?;
-        Ok(PlaceRoom {
-            events,
-            reached,
-            chosen,
-            blocks,
-            v,
-            dwell,
-        })
+        let part = PartRoom::new(alloc, l, chain, size)?;
+        let later = vec![in alloc; 0u128; size]?;
+        Ok(PlaceRoom { part, later })
     }
 
     /// Passes beats from a vector by the rungs of a ladder, and answers how many are left. The dwell begins with nothing.
     ///
-    /// They go over the places that come to hold enough, where these are clearly fewer than those that the vector reaches. If
-    /// too much is lost so, they go over all of these.
+    /// The greatest blocks come last, as a part of their own: in the beats before them most channels that tests have found
+    /// failed come back from repair, so that fewer places hold enough from there on.
     pub fn pass_blocks<L: Ledger>(
         &mut self,
         ladder: &Ladder,
@@ -87,33 +72,40 @@ impl PlaceRoom {
         ensures passes { Passes chain.now 16 (block_beat_loss chain.now.of.subsystems) (beats - result) v.old v.new dwell.old dwell.new }
         ensures steps { steps.new ≤ steps.old + (beats - result) * beat_products chain.now.of.subsystems 16 }
     {
-        self.reached.reach(chain, v);
-        if pass_over_few(
-            &mut self.chosen,
-            &self.reached,
-            chain,
-            ladder,
-            &mut self.blocks,
-            beats,
-            self.events,
-            &mut self.v,
-            &mut self.dwell,
-            v,
-            dwell,
-            steps,
-        ) {
-            return 0;
+        let early = early_beats(ladder, beats);
+        if early == 0 {
+            return self.part.pass_part(ladder, chain, beats, v, dwell, steps);
         }
-        pass_over(
-            &self.reached,
-            ladder,
-            &mut self.blocks,
-            beats,
-            &mut self.v,
-            &mut self.dwell,
-            v,
-            dwell,
-            steps,
-        )
+        self.part.pass_part(ladder, chain, early, v, dwell, steps);
+        let later = self.later.as_mut_slice();
+        later.fill(0);
+        self.part
+            .pass_part(ladder, chain, beats - early, v, later, steps);
+        add_all(dwell, later);
+        0
+    }
+}
+
+/// How many beats of a phase come before its greatest blocks; 0 where these are so few that the phase is passed in one part.
+fn early_beats(ladder: &Ladder, beats: u64) -> u64
+    ensures some { 0 < result → 0 < ladder.now }
+    ensures few { result ≤ beats }
+{
+    if ladder.rungs() == 0 || beats == 0 {
+        return 0;
+    }
+    let exponent = u32::from(ladder.rungs() - 1).min(beats.ilog2());
+    let early = beats % (1 << exponent);
+    if early < LEAST_BEATS { 0 } else { early }
+}
+
+/// Adds the dwell of a later part.
+fn add_all(dwell: &mut [u128], later: &[u128])
+    requires size { length dwell.old ≡ length later.now }
+    requires room { (k : ℕ) → k < length later.now → slice_index dwell.old k + slice_index later.now k < 2 ^ 128 }
+    ensures { IsSumWith 1 dwell.old later.now dwell.new }
+{
+    for k in 0..later.len() {
+        dwell[k] += later[k];
     }
 }

@@ -27,7 +27,30 @@ pub fn gather<L: Ledger>(
 }
 
 /// What a vector gives to one column, rounded down.
+///
+/// Most columns have few entries: those of each such length have code of their own, without a loop.
 fn gathered<L: Ledger>(column: &[Entry], from: &[u64], steps: &mut Steps<L>) -> u64
+    requires few { length column.now ≤ 4097 }
+    requires sources { All (λ e. e.source < length from.now) column.now }
+    requires weights { All (λ e. e.weight ≤ 2 ^ 48) column.now }
+    requires mass { sum from.now ≤ 2 ^ 48 }
+    ensures floor { result ≡ given (λ i. slice_index from.now i) column.now / 2 ^ 48 }
+    ensures steps { steps.new ≡ steps.old + length column.now }
+{
+    match column.len() {
+        2 => given_down(&column[..2], from, steps),
+        3 => given_down(&column[..3], from, steps),
+        4 => given_down(&column[..4], from, steps),
+        5 => given_down(&column[..5], from, steps),
+        6 => given_down(&column[..6], from, steps),
+        7 => given_down(&column[..7], from, steps),
+        8 => given_down(&column[..8], from, steps),
+        _ => given_down(column, from, steps),
+    }
+}
+
+/// The sum of the entries, each times the number of its source, rounded down.
+fn given_down<L: Ledger>(column: &[Entry], from: &[u64], steps: &mut Steps<L>) -> u64
     requires few { length column.now ≤ 4097 }
     requires sources { All (λ e. e.source < length from.now) column.now }
     requires weights { All (λ e. e.weight ≤ 2 ^ 48) column.now }

@@ -3,7 +3,7 @@
 //! No clause says how good it is: what is lost with the count vectors that it leaves out shows at the end of the phase, by
 //! what the vector then lacks.
 
-ghost use Rattle.std.specs.Prelude.{◌≡◌, ◌<◌, ◌≤◌, ◌^◌, length, All};
+ghost use Rattle.std.specs.Prelude.{◌≡◌, ◌<◌, ◌^◌, length, All};
 ghost use Rattle.product_chain.specs.Columns.{AreWeighted};
 
 use product_chain::Entry;

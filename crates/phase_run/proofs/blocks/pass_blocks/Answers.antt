@@ -1,4 +1,4 @@
-use Rattle.std.proofs.Common.{◌≡◌, ℕ, ◌+◌, ◌-◌, ◌*◌, ◌/◌, ◌%◌, ◌^◌, ◌<◌, ◌≤◌, length, refl, ◌∙◌, arith}
+use Rattle.std.proofs.Common.{◌≡◌, ◌+◌, ◌-◌, ◌*◌, ◌/◌, ◌%◌, ◌^◌, ◌<◌, length, refl, ◌∙◌, arith}
 use Rattle.beat_ladder.specs.Losses.{IsStep}
 use Rattle.phase_run.specs.Passes.{beat_loss_in_blocks, beat_products_in_blocks}
 use Rattle.phase_run.proofs.Passes.{passes_none, passes_more, counted_more, used}

@@ -1,4 +1,4 @@
-use Rattle.std.proofs.Common.{◌≡◌, ◌+◌, ◌≤◌, length, refl, ap, arith}
+use Rattle.std.proofs.Common.{◌+◌, ◌≤◌, length, refl, ap, arith}
 use Rattle.std.proofs.Math.Nat.{mul-le-mul_left}
 use Rattle.product_chain.specs.Kept.{ChainValue}
 use Rattle.uniformise.specs.Beat.{beat_products}

@@ -1,6 +1,5 @@
-use Rattle.std.proofs.Common.{◌≡◌, ℕ, ◌-◌, ◌<◌, ◌≤◌, length, slice_index, ◌∙◌, sym, arith}
+use Rattle.std.proofs.Common.{◌≡◌, ◌-◌, ◌≤◌, length, slice_index, ◌∙◌, sym, arith}
 use Rattle.std.proofs.lemmas.List.{length-take-le}
-use Rattle.sil_model.specs.Sizes.{states_of}
 use Rattle.reached_chain.specs.Reached.{ReachedValue}
 use Rattle.reached_chain.specs.Phases.{AreOne}
 use Rattle.phase_run.proofs.OverPlaces.{blank, passes_scattered}

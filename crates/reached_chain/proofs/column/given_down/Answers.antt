@@ -3,7 +3,7 @@ use Rattle.std.proofs.lemmas.List.{take_all}
 use Rattle.vector_laws.proofs.Masses.{place-le}
 use Rattle.product_chain.specs.Columns.{given}
 use Rattle.reached_chain.proofs.Columns.{given-small}
-use Rattle.reached_chain.proofs.column.gathered.Goals as goal
+use Rattle.reached_chain.proofs.column.given_down.Goals as goal
 
 pub overflow_cast-result : goal.overflow_cast-result
 overflow_cast-result g c =

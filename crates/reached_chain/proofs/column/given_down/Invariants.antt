@@ -1,6 +1,6 @@
 use Rattle.std.proofs.Common.{◌≡◌, ◌+◌, take, get_or}
 use Rattle.product_chain.specs.Columns.{given}
-use Rattle.reached_chain.proofs.column.gathered.Given as goal
+use Rattle.reached_chain.proofs.column.given_down.Given as goal
 
 abbrev pub invariant-loop-entry : goal.invariant-loop-entry
 invariant-loop-entry g l = record {
