@@ -28,6 +28,10 @@ module _ (places : List ℕ) where
   abbrev pub IsWithin : List ℕ → Type 0
   IsWithin v = (i : ℕ) → i < length v → IsElsewhere i → slice_index v i ≡ 0
 
+  -- the places have every number of which a vector holds more than this
+  abbrev pub HaveAllAbove : ℕ → List ℕ → Type 0
+  HaveAllAbove least v = (i : ℕ) → i < length v → least < slice_index v i → IsElsewhere i → ⊥
+
   -- the numbers of a vector at the places, one after another
   pub record IsGatheredFrom (v small : List ℕ) : Type 0 where
     pub number : length small ≡ length places

@@ -3,8 +3,9 @@
 //! No clause says how good it is: what is lost with the count vectors that it leaves out shows at the end of the phase, by
 //! what the vector then lacks.
 
-ghost use Rattle.std.specs.Prelude.{◌≡◌, ◌<◌, ◌^◌, length, All};
+ghost use Rattle.std.specs.Prelude.{◌≡◌, ℕ, true, ◌<◌, ◌^◌, length, slice_index, All};
 ghost use Rattle.product_chain.specs.Columns.{AreWeighted};
+ghost use Rattle.reached_chain.specs.Marks.{is_marked};
 
 use product_chain::Entry;
 
@@ -31,6 +32,7 @@ pub fn mark_heavy(
     requires columns { AreWeighted (length marks.old) (length marks.old) starts.now entries.now }
     requires v { length v.now ≡ length marks.old }
     requires masses { length masses.old ≡ length marks.old }
+    ensures held { (i : ℕ) → i < length v.now → least < slice_index v.now i → is_marked marks.new i ≡ true }
 {
     start_masses(v, masses);
     sweep_up(entries, starts, v, ticks, masses);

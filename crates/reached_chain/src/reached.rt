@@ -8,7 +8,7 @@ ghost use Rattle.sil_model.specs.Sizes.{states_of};
 ghost use Rattle.vector_laws.specs.Vectors.{weigh};
 ghost use Rattle.product_chain.specs.Kept.{events_number};
 ghost use Rattle.product_chain.specs.Weights.{weight_of};
-ghost use Rattle.reached_chain.specs.Reached.{AreInOrder, AreNoMore, IsWithin, IsGatheredFrom, at_places, step_of_places, tick_loss_of};
+ghost use Rattle.reached_chain.specs.Reached.{AreInOrder, AreNoMore, HaveAllAbove, IsWithin, IsGatheredFrom, at_places, step_of_places, tick_loss_of};
 
 use crate::closure::{mark_reached, mark_support};
 use crate::column::gather;
@@ -118,6 +118,7 @@ impl ReachedChain {
         requires v { length v.now ≡ states_of chain.now.of.subsystems }
         ensures chain { self.new.chain ≡ chain.now }
         ensures open { self.new.closed ≡ false }
+        ensures held { HaveAllAbove self.new.places least v.now }
     {
         let columns = chain.columns();
         mark_heavy(

@@ -1,10 +1,11 @@
-use Rattle.std.proofs.Common.{◌≡◌, ℕ, List, length, ap, ◌∙◌, arith}
+use Rattle.std.proofs.Common.{◌≡◌, ℕ, List, length, sym, ap, ◌∙◌, arith}
 use Rattle.std.specs.Prelude.{Bool, true, false}
 use Rattle.sil_model.specs.Sizes.{states_of}
 use Rattle.product_chain.proofs.Chains.{written}
 use Rattle.reached_chain.specs.Places.{ArePlaces, AreCompact}
 use Rattle.reached_chain.specs.Reached.{ReachedValue}
 use Rattle.reached_chain.proofs.Between.{are_in_order, are_between}
+use Rattle.reached_chain.proofs.Listed.{unmarked}
 use Rattle.reached_chain.proofs.reached.ReachedChain.choose.Goals as goal
 
 pub invariant_of-self : goal.invariant_of-self
@@ -57,4 +58,22 @@ invariant_of-self c =
     )
   where
     apart : false ≡ true → ⊥
+    apart f = cc
+
+pub returns-clause-held : goal.returns-clause-held
+returns-clause-held c =
+    let s = c.self.inside in
+    let chain = c.args.chain.now in
+    let N : List Bool = c.mark_heavy.new.marks in
+    let loop : s.of.value.of ≡ chain.of = ap (λ (v : ReachedValue). v.chain.of) c.self.view_is ∙ c.requires.same in
+    let marks_room = rw loop at c.self.invariant.1.marks_room in
+    let n_long : length N ≡ length s.marks.items = omega (arith, c.mark_heavy.auto.marks, ap length c.as_mut_slice-2.ensures.value) in
+    let n_now = written s.marks.len N s.marks.items n_long (omega arith) in
+    let seen : c.as_slice.result.now ≡ N = c.as_slice.ensures.value ∙ n_now in
+    let is : ArePlaces N c.list_places.new.places.items c.list_places.new.ranks = rw seen at c.list_places.ensures.places in
+    λ i h more elsewhere.
+    apart (sym (c.mark_heavy.ensures.held i h more) ∙ unmarked N c.list_places.new.places.items c.list_places.new.ranks is i
+    (omega (arith, h, n_long, marks_room, c.requires.v)) elsewhere)
+  where
+    apart : true ≡ false → ⊥
     apart f = cc
