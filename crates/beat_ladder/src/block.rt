@@ -9,7 +9,7 @@ ghost use Rattle.beat_ladder.specs.Powers.{power_of};
 ghost use Rattle.beat_ladder.specs.Rungs.{IsUsable};
 ghost use Rattle.beat_ladder.specs.Losses.{IsStep};
 
-use crate::sums::{add_all, add_products};
+use crate::sums::{add_all, add_both, add_products};
 use crate::{Rung, Tick};
 use sil_model::Steps;
 use std::sync::ledger::Ledger;
@@ -98,8 +98,7 @@ pub fn gather<T: Tick, L: Ledger>(
     add_early(rung, early, stays, steps);
     let last = rung.numbers.len() - 1;
     for k in 0..last {
-        add_products(ends, rung.numbers[k], now, steps);
-        add_products(stays, rung.tails[k], now, steps);
+        add_both(ends, rung.numbers[k], stays, rung.tails[k], now, steps);
         step(tick, now, next, steps);
     }
     // The last tail is 0.

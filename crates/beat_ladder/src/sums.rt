@@ -30,6 +30,32 @@ pub fn add_products<L: Ledger>(sums: &mut [u128], weight: u64, vector: &[u64], s
     }
 }
 
+/// Adds one multiple of a vector to the first sums and another to the second, in one pass.
+pub fn add_both<L: Ledger>(
+    first: &mut [u128],
+    first_weight: u64,
+    second: &mut [u128],
+    second_weight: u64,
+    vector: &[u64],
+    steps: &mut Steps<L>,
+)
+    requires first_size { length first.old ≡ length vector.now }
+    requires second_size { length second.old ≡ length vector.now }
+    requires first_room { sum first.old + first_weight * sum vector.now < 2 ^ 128 }
+    requires second_room { sum second.old + second_weight * sum vector.now < 2 ^ 128 }
+    ensures first { IsSumWith first_weight first.old vector.now first.new }
+    ensures second { IsSumWith second_weight second.old vector.now second.new }
+    ensures steps { steps.new ≡ steps.old + 2 * length vector.now }
+{
+    for k in 0..vector.len() {
+        let number = u128::from(vector[k]);
+        first[k] += u128::from(first_weight) * number;
+        second[k] += u128::from(second_weight) * number;
+        steps.count_one();
+        steps.count_one();
+    }
+}
+
 /// The sums in whole units, rounded down.
 pub fn round_down(sums: &[u128], to: &mut [u64])
     requires size { length to.old ≡ length sums.now }

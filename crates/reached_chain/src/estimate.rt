@@ -1,7 +1,7 @@
 //! An estimate of what a phase brings into each count vector.
 //!
-//! No clause says how good it is: what is lost with the count vectors that it leaves out shows at the end of the phase, by
-//! what the vector then lacks.
+//! No clause says how good it is, but that what the vector holds is seen: what is lost with the count vectors that are left
+//! out shows at the end of the phase, by what the vector then lacks.
 
 ghost use Rattle.std.specs.Prelude.{◌≡◌, ℕ, true, ◌<◌, ◌^◌, length, slice_index, All};
 ghost use Rattle.product_chain.specs.Columns.{AreWeighted};

@@ -58,8 +58,8 @@ loop-k-init g c =
       counted = omega (arith, c.early_ticks.ensures.steps, c.add_early.ensures.steps, long);
     }
 
-pub add_products-requires-clause-room : goal.add_products-requires-clause-room
-add_products-requires-clause-room g c =
+pub add_both-requires-clause-first_room : goal.add_both-requires-clause-first_room
+add_both-requires-clause-first_room g c =
     let r = c.args.rung.now in
     let B = IsStep (g.T.Tick.step c.args.tick.now) in
     let loss : ℕ = g.T.Tick.loss c.args.tick.now in
@@ -73,8 +73,8 @@ add_products-requires-clause-room g c =
       number_room r.exponent r.low r.numbers.items r.tails.items r.held r.tailed c.index.result.now (sum c.loop-k.now) c.loop-k.k w now,
     )
 
-pub add_products-requires-in-loop-k-clause-room : goal.add_products-requires-in-loop-k-clause-room
-add_products-requires-in-loop-k-clause-room g c =
+pub add_both-requires-clause-second_room : goal.add_both-requires-clause-second_room
+add_both-requires-clause-second_room g c =
     let r = c.args.rung.now in
     let B = IsStep (g.T.Tick.step c.args.tick.now) in
     let loss : ℕ = g.T.Tick.loss c.args.tick.now in
@@ -108,23 +108,22 @@ loop-k-preserved g c =
       ticked = rw next (ticked_more B loss v c.loop-k.now c.step.new.now (r.low + c.loop-k.k) c.loop-k.invariant.ticked c.step.ensures.weighed
           c.step.ensures.kept c.step.ensures.lack);
       ends = ends_more B loss v r.exponent r.low r.numbers.items r.tails.items r.held r.tailed c.loop-k.now c.loop-k.ends
-          c.add_products.new.sums c.loop-k.k c.index.result.now within number
-          c.add_products.ensures.added c.loop-k.invariant.ticked c.loop-k.invariant.ends;
+          c.add_both.new.first c.loop-k.k c.index.result.now within number
+          c.add_both.ensures.first c.loop-k.invariant.ticked c.loop-k.invariant.ends;
       stays = stays_more B loss v r.exponent r.low r.numbers.items r.tails.items r.held r.tailed c.loop-k.now c.loop-k.stays
-          c.add_products-in-loop-k.new.sums c.loop-k.k c.index-in-loop-k.result.now within tail
-          c.add_products-in-loop-k.ensures.added c.loop-k.invariant.ticked c.loop-k.invariant.stays;
+          c.add_both.new.second c.loop-k.k c.index-in-loop-k.result.now within tail
+          c.add_both.ensures.second c.loop-k.invariant.ticked c.loop-k.invariant.stays;
       counted = omega (
         arith,
         c.loop-k.invariant.counted,
-        c.add_products.ensures.steps,
-        c.add_products-in-loop-k.ensures.steps,
+        c.add_both.ensures.steps,
         c.step.ensures.steps,
         size,
       );
     }
 
-pub add_products-requires-2-clause-room : goal.add_products-requires-2-clause-room
-add_products-requires-2-clause-room g c =
+pub add_products-requires-clause-room : goal.add_products-requires-clause-room
+add_products-requires-clause-room g c =
     let r = c.args.rung.now in
     let B = IsStep (g.T.Tick.step c.args.tick.now) in
     let loss : ℕ = g.T.Tick.loss c.args.tick.now in
@@ -147,8 +146,8 @@ returns-clause-ends g c =
     let w : c.index-2.result.now ≡ slice_index r.numbers.items c.loop-k.k =
     (rw k at c.index-2.ensures) ∙ get_or_default_zero r.numbers.items c.loop-k.k c.index-2.result.now (omega (arith, r.tailed.same)) in
     ends_all (IsStep (g.T.Tick.step c.args.tick.now)) (g.T.Tick.loss c.args.tick.now) c.args.now.now r.exponent r.low r.numbers.items r.tails.items
-    r.held r.tailed c.loop-k.now c.loop-k.ends c.add_products-2.new.sums c.loop-k.k c.index-2.result.now last w
-    c.add_products-2.ensures.added c.loop-k.invariant.ticked c.loop-k.invariant.ends
+    r.held r.tailed c.loop-k.now c.loop-k.ends c.add_products.new.sums c.loop-k.k c.index-2.result.now last w
+    c.add_products.ensures.added c.loop-k.invariant.ticked c.loop-k.invariant.ends
 
 pub returns-clause-stays : goal.returns-clause-stays
 returns-clause-stays g c =
@@ -163,4 +162,4 @@ returns-clause-steps g c =
     let last : length r.numbers.items ≡ c.loop-k.k + 1 = omega (arith, r.numbers.ok.0, r.held.some) in
     let size : length c.loop-k.now ≡ g.T.Tick.size c.args.tick.now =
     omega (arith, c.loop-k.invariant.now, c.requires.now) in
-    rw last (omega (arith, c.loop-k.invariant.counted, c.add_products-2.ensures.steps, size))
+    rw last (omega (arith, c.loop-k.invariant.counted, c.add_products.ensures.steps, size))
