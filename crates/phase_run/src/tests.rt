@@ -1,8 +1,9 @@
-//! A phase of one channel that is never tested, against the exponential.
+//! A phase of one channel that is never tested, and one of four channels that are all in repair, against the exponential.
 
 ghost use Rattle.std.specs.Prelude.{◌≡◌, ◌<◌};
 
-use crate::run_phase;
+use crate::{PlaceRoom, run_phase, run_phase_by_ladder};
+use beat_ladder::Ladder;
 use lumping::Space;
 use product_chain::Chain;
 use sample_loops::{Sample, sample_loop};
@@ -16,6 +17,24 @@ use std::test::Fail;
 use test_calendar::beats_of;
 use uniformise::Workspace;
 
+/// Some channels of which one suffices, without common cause and without tests.
+fn untested(channels: u8, du: u64, dd: u64, repair: u32) -> Sample {
+    Sample {
+        vote: Vote { m: 1, n: channels },
+        figures: ChannelFigures {
+            du,
+            dd,
+            beta: 0,
+            beta_d: 0,
+            coverage: 1000,
+            restart_fault: 0,
+            repair,
+        },
+        in_repair: InRepair::Lost,
+        test: None,
+    }
+}
+
 /// A channel that fails once in a million hours, over a year that it begins working.
 ///
 /// The exact numbers are exp(-x) and (1 - exp(-x)) / x for x = 0.00876, and what they leave to 1, rounded down.
@@ -25,21 +44,7 @@ fn one_year<L: Ledger>(rt: &impl Abort, alloc: Global, blank: Blank) -> Result<(
     requires some { 0 < blank.parts }
 {
     let mut steps = Steps::<L>::open(blank);
-    let sample = Sample {
-        vote: Vote { m: 1, n: 1 },
-        figures: ChannelFigures {
-            du: 1_000_000,
-            dd: 0,
-            beta: 0,
-            beta_d: 0,
-            coverage: 1000,
-            restart_fault: 0,
-            repair: 8,
-        },
-        in_repair: InRepair::Lost,
-        test: None,
-    };
-    let Some(l) = sample_loop(alloc, 8760, &[sample])? else {
+    let Some(l) = sample_loop(alloc, 8760, &[untested(1, 1_000_000, 0, 8)])? else {
         return Err("out of range".into());
     };
     let Ok(space) = Space::new(alloc, &l) else {
@@ -84,6 +89,68 @@ fn one_year<L: Ledger>(rt: &impl Abort, alloc: Global, blank: Blank) -> Result<(
         (0, 0, 0, 0, 1, 1)
     );
     Ok(())
+}
+
+/// Two pairs of channels, all of them in repair at first, over 2,000 hours.
+///
+/// The estimate goes over repairs last, so that it does not see how many of these channels fail again: what is lost over the
+/// chosen places is too much, and the beats pass again. The exact numbers are those of a channel's exponential, squared.
+fn all_in_repair<L: Ledger>(rt: &impl Abort, alloc: Global, blank: Blank) -> Result<(), Fail>
+    requires name { blank.name ≡ L.name }
+    requires parts { blank.parts ≡ L.parts }
+    requires some { 0 < blank.parts }
+{
+    let mut steps = Steps::<L>::open(blank);
+    let pairs = [
+        untested(2, 500_000_000, 100_000, 24),
+        untested(2, 1_000, 1_000, 24),
+    ];
+    let Some(l) = sample_loop(alloc, 2000, &pairs)? else {
+        return Err("out of range".into());
+    };
+    let Ok(space) = Space::new(alloc, &l) else {
+        return Err("no space".into());
+    };
+    assert_eq!(rt; space.size(), 100);
+    assert!(rt; beats_of(&l, 2000) <= 336);
+    let chain = Chain::new(alloc, &l, &space, 2000, 336)?;
+    let weights = Weights::new(28);
+    let ladder = Ladder::new(alloc, 336)?;
+    let mut places = PlaceRoom::new(alloc, &l, &chain, 100)?;
+    let mut work = Workspace::new(alloc, 100)?;
+    let mut v = [0; 100];
+    v[99] = 1 << 48;
+    let mut mean = [0; 100];
+    let mut hours = [0; 100];
+    run_phase_by_ladder(
+        &ladder,
+        &mut places,
+        &mut work,
+        &chain,
+        &weights,
+        336,
+        2000,
+        &mut v,
+        &mut mean,
+        &mut hours,
+        &mut steps,
+    );
+    let exact: [(usize, u128); 3] = [
+        (0, 39_024_302_590_266),
+        (1, 131_563_425_533_455),
+        (4, 110_885_613_510_068),
+    ];
+    // 336 beats of 1,121 units each
+    let loss = 376_656;
+    for (k, end) in exact {
+        assert!(rt; v[k] <= end && end - v[k] <= loss, "end of {k}");
+    }
+    Ok(())
+}
+
+#[test]
+fn channels_that_fail_again(rt: HostRuntime) -> Result<(), Fail> {
+    all_in_repair::<Brand>(&rt, rt.alloc(), Blank::new(1))
 }
 
 #[test]
