@@ -11,10 +11,10 @@ use Rattle.vector_laws.proofs.Masses.{sum-none, place-le}
 use Rattle.product_chain.specs.Kept.{events_number}
 use Rattle.beat_ladder.specs.Losses.{IsStep}
 use Rattle.uniformise.specs.Beat.{beat_products}
-use Rattle.reached_chain.specs.Reached.{ReachedValue, AreInOrder, step_of_places, tick_loss_of}
-use Rattle.reached_chain.specs.Phases.{AreTaken, AreOne, ScatteredLaw}
-use Rattle.reached_chain.proofs.Phases.{scattered_law}
-use Rattle.reached_chain.proofs.Scattered.{sum-gathered}
+use Rattle.place_chain.specs.PlaceChain.{PlaceChainValue, AreInOrder, step_of_places, tick_loss_of}
+use Rattle.place_chain.specs.Phases.{AreTaken, AreOne, ScatteredLaw}
+use Rattle.place_chain.proofs.Phases.{scattered_law}
+use Rattle.place_chain.proofs.Scattered.{sum-gathered}
 use Rattle.phase_run.specs.Passes.{PassesBy, Passes, LosesLittle, beat_loss_in_blocks, block_beat_loss, beat_products_in_blocks}
 
 -- a vector that was written over by zeros
@@ -53,7 +53,7 @@ products_of_tries of_places most rungs beats left a s b tried none all few more 
       ]
 ]
 
-module _ (r : ReachedValue) (placed : AreInOrder r.chain.of.subsystems r.places) where
+module _ (r : PlaceChainValue) (placed : AreInOrder r.chain.of.subsystems r.places) where
   one-sum : (wide small : List ℕ) → AreOne r wide small → sum small ≡ sum wide
   one-sum wide small is =
       sum-gathered r.places wide small placed.rising (λ k h. omega (arith, placed.below k h, is.taken.size)) is.taken.gathered is.within

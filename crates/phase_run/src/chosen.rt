@@ -10,7 +10,7 @@ ghost use Rattle.phase_run.specs.Passes.{Passes, LosesLittle, block_beat_loss, b
 use crate::blocks::pass_blocks;
 use beat_ladder::{BlockRoom, Ladder};
 use product_chain::Chain;
-use reached_chain::ReachedChain;
+use place_chain::PlaceChain;
 use sil_model::{Loop, Steps};
 use std::sync::ledger::Ledger;
 
@@ -32,8 +32,8 @@ pub fn events_of(l: &Loop) -> u64
 /// Whether beats may be tried over chosen places: these are clearly fewer than those that are reached, and should too much be
 /// lost, both tries take no more products than the beats may.
 fn may_be_tried(
-    chosen: &ReachedChain,
-    reached: &ReachedChain,
+    chosen: &PlaceChain,
+    reached: &PlaceChain,
     of_reached: u128,
     states: usize,
     events: u64,
@@ -54,7 +54,7 @@ fn may_be_tried(
 
 /// How many products a beat of a block takes over the places, at most.
 #[tactic(auto, using(crate::proofs::OverPlaces::products_of_places))]
-fn products_of_beat(chain: &ReachedChain) -> u128
+fn products_of_beat(chain: &PlaceChain) -> u128
     ensures value { result ≡ beat_products_in_blocks chain.now.entries (length chain.now.places) }
     ensures small { result ≤ 2 ^ 80 }
     ensures within { result ≤ beat_products chain.now.chain.of.subsystems 16 }
@@ -105,7 +105,7 @@ fn loses_little(before: &[u128], after: &[u64], dwelt: &[u128], beats: u64, loss
 /// Passes beats over chosen places, and answers whether little was lost; if not, vector and dwell stay as they were.
 #[allow(clippy::too_many_arguments)]
 fn pass_over_chosen<L: Ledger>(
-    chosen: &ReachedChain,
+    chosen: &PlaceChain,
     ladder: &Ladder,
     blocks: &mut BlockRoom,
     beats: u64,
@@ -151,8 +151,8 @@ fn pass_over_chosen<L: Ledger>(
 /// them. It answers whether it has done so and little was lost; if not, vector and dwell stay as they were.
 #[allow(clippy::too_many_arguments)]
 pub fn pass_over_few<L: Ledger>(
-    chosen: &mut ReachedChain,
-    reached: &ReachedChain,
+    chosen: &mut PlaceChain,
+    reached: &PlaceChain,
     chain: &Chain,
     ladder: &Ladder,
     blocks: &mut BlockRoom,

@@ -3,19 +3,19 @@
 ghost use Rattle.std.specs.Prelude.{◌≡◌, ℕ, true, ◌+◌, ◌-◌, ◌*◌, ◌<◌, ◌≤◌, length, slice_index};
 ghost use Rattle.sil_model.specs.Sizes.{states_of};
 ghost use Rattle.vector_laws.specs.Vectors.{IsMass};
-ghost use Rattle.reached_chain.specs.Reached.{IsWithin};
+ghost use Rattle.place_chain.specs.PlaceChain.{IsWithin};
 ghost use Rattle.phase_run.specs.Passes.{Passes, block_beat_loss, beat_products_in_blocks};
 
 use crate::blocks::pass_blocks;
 use beat_ladder::{BlockRoom, Ladder};
-use reached_chain::ReachedChain;
+use place_chain::PlaceChain;
 use sil_model::Steps;
 use std::sync::ledger::Ledger;
 
 /// Gathers a vector onto the places that it reaches, passes beats over these, and scatters what becomes of it and of its dwell.
 #[allow(clippy::too_many_arguments)]
 pub fn pass_over<L: Ledger>(
-    reached: &ReachedChain,
+    reached: &PlaceChain,
     ladder: &Ladder,
     blocks: &mut BlockRoom,
     beats: u64,

@@ -10,7 +10,7 @@ use crate::chosen::{events_of, pass_over_few};
 use crate::over::pass_over;
 use beat_ladder::{BlockRoom, Ladder};
 use product_chain::Chain;
-use reached_chain::ReachedChain;
+use place_chain::PlaceChain;
 use sil_model::{Loop, Steps};
 use std::alloc::{AllocError, Global};
 use std::marker::Model;
@@ -21,8 +21,8 @@ use std::sync::ledger::Ledger;
 #[derive(Drop)]
 pub struct PartRoom {
     events: u64,
-    reached: ReachedChain,
-    chosen: ReachedChain,
+    reached: PlaceChain,
+    chosen: PlaceChain,
     blocks: BlockRoom,
     v: Vec<u64>,
     dwell: Vec<u128>,
@@ -47,8 +47,8 @@ impl PartRoom {
         ensures { IfOk result (λ r. r ≡ chain.now.of) }
     {
         let events = events_of(l);
-        let reached = ReachedChain::new(alloc, l, chain)?;
-        let chosen = ReachedChain::new(alloc, l, chain)?;
+        let reached = PlaceChain::new(alloc, l, chain)?;
+        let chosen = PlaceChain::new(alloc, l, chain)?;
         let blocks = BlockRoom::new(alloc, size)?;
         let v = vec![in alloc; 0u64; size]?;
         let dwell = vec![in alloc; 0u128; size]?;

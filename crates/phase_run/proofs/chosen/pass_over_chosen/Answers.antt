@@ -3,8 +3,8 @@ use Rattle.std.proofs.Math.Nat.{mul-le-mul_left}
 use Rattle.std.proofs.lemmas.List.{length-take-le}
 use Rattle.vector_laws.proofs.Masses.{sum-none}
 use Rattle.beat_ladder.specs.Losses.{IsStep}
-use Rattle.reached_chain.specs.Reached.{ReachedValue, step_of_places, tick_loss_of}
-use Rattle.reached_chain.specs.Phases.{AreOne}
+use Rattle.place_chain.specs.PlaceChain.{PlaceChainValue, step_of_places, tick_loss_of}
+use Rattle.place_chain.specs.Phases.{AreOne}
 use Rattle.phase_run.specs.Passes.{PassesBy, beat_loss_in_blocks, block_beat_loss}
 use Rattle.phase_run.proofs.OverPlaces.{blank, passes_taken}
 use Rattle.phase_run.proofs.chosen.pass_over_chosen.Goals as goal
@@ -25,7 +25,7 @@ loses_little-requires-clause-dwelt g c =
 
 pub returns-clause-passes : goal.returns-clause-passes
 returns-clause-passes g c done =
-    let r : ReachedValue = c.args.chosen.now in
+    let r : PlaceChainValue = c.args.chosen.now in
     let placed = c.size-size.ensures.placed in
     let short : c.size-size.result ≤ length c.args.small_dwell.now = omega (arith, c.size-size.ensures.size, placed.few, c.requires.small_dwell) in
     let zeros : length c.fill.new.self ≡ length r.places =

@@ -1,13 +1,13 @@
 use Rattle.std.proofs.Common.{◌≡◌, ◌-◌, ◌≤◌, length, slice_index, ◌∙◌, sym, arith}
 use Rattle.std.proofs.lemmas.List.{length-take-le}
-use Rattle.reached_chain.specs.Reached.{ReachedValue}
-use Rattle.reached_chain.specs.Phases.{AreOne}
+use Rattle.place_chain.specs.PlaceChain.{PlaceChainValue}
+use Rattle.place_chain.specs.Phases.{AreOne}
 use Rattle.phase_run.proofs.OverPlaces.{blank, passes_scattered}
 use Rattle.phase_run.proofs.over.pass_over.Goals as goal
 
 pub returns-clause-passes : goal.returns-clause-passes
 returns-clause-passes g c =
-    let r : ReachedValue = c.args.reached.now in
+    let r : PlaceChainValue = c.args.reached.now in
     let placed = c.size-size.ensures.placed in
     let short : c.size-size.result ≤ length c.args.small_dwell.now = omega (arith, c.size-size.ensures.size, placed.few, c.requires.small_dwell) in
     let zeros : length c.fill.new.self ≡ length r.places =

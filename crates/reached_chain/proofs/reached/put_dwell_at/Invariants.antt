@@ -1,9 +1,0 @@
-use Rattle.std.proofs.Common.{◌≡◌, ℕ, ◌<◌, length, get_or}
-use Rattle.reached_chain.specs.Reached.{IsElsewhere}
-use Rattle.reached_chain.proofs.reached.put_dwell_at.Given as goal
-
-abbrev pub invariant-loop-k : goal.invariant-loop-k
-invariant-loop-k l = record {
-  each : (i : ℕ) → i < l.k → get_or l.dwell (get_or l.places i 0) 0 ≡ get_or l.small i 0;
-  none : (i : ℕ) → i < length l.dwell → IsElsewhere l.places i → get_or l.dwell i 0 ≡ 0;
-}
