@@ -23,7 +23,9 @@ SMALL_WORK, BLOCK_WORK = 16_384, 64
 # A loop of at most so many states may pass its phases by powers of the beat.
 POWERS_STATES = 64
 # For fewer beats no states are chosen; those into which the beats bring at most so much for each of them are left out.
-LEAST_BEATS, LEAST_MASS = 64, 16
+LEAST_BEATS, LEAST_MASS = 8, 16
+# With fewer beats before its greatest blocks a phase is passed in one part.
+LEAST_EARLY = 64
 WORK, HIDDEN, DEEP, REPAIR = range(4)
 PFD_BANDS = ((10**17, "no SIL"), (10**16, "SIL 1"), (10**15, "SIL 2"), (10**14, "SIL 3"), (10**13, "SIL 4"))
 PFH_BANDS = tuple((lower // 10**4, name) for lower, name in PFD_BANDS)
@@ -99,9 +101,9 @@ class Ladder:
         return ONE - sum(numbers) <= MOST_MISSING * beats and beats * ONE - dwell <= MOST_MISSING * beats * beats
 
     def early_beats(self, beats):
-        """How many beats of a phase come before its greatest blocks; 0 where these are few, and it is passed in one part."""
+        """How many beats of a phase come before its greatest blocks, as a part of their own."""
         early = beats % max([1] + [of_rung for of_rung, _, _ in self.rungs if of_rung <= beats])
-        return early if early >= LEAST_BEATS else 0
+        return early if early >= LEAST_EARLY else 0
 
     def blocks_of(self, beats):
         """The blocks of a phase of so many beats, the greatest first, and how many beats are left for themselves."""

@@ -15,7 +15,7 @@ use sil_model::{Loop, Steps};
 use std::sync::ledger::Ledger;
 
 /// For fewer beats no places are chosen: that takes about as long as it saves.
-pub const LEAST_BEATS: u64 = 64;
+const LEAST_BEATS: u64 = 8;
 
 /// Places into which beats bring at most so much for each of them are left out, in units of 2^-48.
 const LEAST_MASS: u64 = 16;

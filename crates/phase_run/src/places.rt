@@ -7,7 +7,6 @@ ghost use Rattle.vector_laws.specs.Laws.{IsSumWith};
 ghost use Rattle.uniformise.specs.Beat.{beat_products};
 ghost use Rattle.phase_run.specs.Passes.{Passes, block_beat_loss};
 
-use crate::chosen::LEAST_BEATS;
 use crate::part::PartRoom;
 use beat_ladder::Ladder;
 use product_chain::Chain;
@@ -15,6 +14,9 @@ use sil_model::{Loop, Steps};
 use std::alloc::{AllocError, Global};
 use std::marker::Model;
 use std::sync::ledger::Ledger;
+
+/// With fewer beats before its greatest blocks a phase is passed in one part: what is in repair is not back at work by then.
+const LEAST_EARLY: u64 = 64;
 
 /// Room for blocks of beats over the places that a vector reaches, or over chosen ones, by the chains of one loop. Contracts
 /// see it as the loop.
@@ -86,7 +88,7 @@ impl PlaceRoom {
     }
 }
 
-/// How many beats of a phase come before its greatest blocks; 0 where these are so few that the phase is passed in one part.
+/// How many beats of a phase come before its greatest blocks, as a part of their own; 0 where they are too few for that.
 fn early_beats(ladder: &Ladder, beats: u64) -> u64
     ensures some { 0 < result → 0 < ladder.now }
     ensures few { result ≤ beats }
@@ -96,7 +98,7 @@ fn early_beats(ladder: &Ladder, beats: u64) -> u64
     }
     let exponent = u32::from(ladder.rungs() - 1).min(beats.ilog2());
     let early = beats % (1 << exponent);
-    if early < LEAST_BEATS { 0 } else { early }
+    if early < LEAST_EARLY { 0 } else { early }
 }
 
 /// Adds the dwell of a later part.
