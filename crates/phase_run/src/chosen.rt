@@ -9,8 +9,8 @@ ghost use Rattle.phase_run.specs.Passes.{Passes, LosesLittle, block_beat_loss, b
 
 use crate::blocks::pass_blocks;
 use beat_ladder::{BlockRoom, Ladder};
-use product_chain::Chain;
 use place_chain::PlaceChain;
+use product_chain::Chain;
 use sil_model::{Loop, Steps};
 use std::sync::ledger::Ledger;
 
