@@ -18,7 +18,8 @@ pub returns-in-Ok-clause-headline : goal.returns-in-Ok-clause-headline
 returns-in-Ok-clause-headline g c = λ e. elim c.write_text.ensures.one_of_two [
   | inl same ↦ (
     c.deref.result.now,
-    under _ g.S.Shelf.tells (g.S.Shelf.file c.args.shelf.now) (g.S.Shelf.handed c.answer_to.new.shelf) (map string_bytes c.args.words.now) _ _ _ _ (sym same ∙ e) (sym c.deref.ensures.value) (rw c.as_mut_slice.ensures.value at c.in-Ok.ensures.answer),
+    under _ g.S.Shelf.tells (g.S.Shelf.file c.args.shelf.now) (g.S.Shelf.handed c.answer_to.new.shelf) (map string_bytes c.args.words.now) _ _ _ _
+        (sym same ∙ e) (sym c.deref.ensures.value) (rw c.as_mut_slice.ensures.value at c.in-Ok.ensures.answer),
     c.write_text.ensures.all_taken same,
     c.write_text.ensures.whole same,
   )
@@ -29,7 +30,8 @@ pub returns-in-Ok-clause-not_shown : goal.returns-in-Ok-clause-not_shown
 returns-in-Ok-clause-not_shown g c = λ e. elim c.write_text.ensures.one_of_two [
   | inl same ↦ (
     c.deref.result.now,
-    under _ g.S.Shelf.tells (g.S.Shelf.file c.args.shelf.now) (g.S.Shelf.handed c.answer_to.new.shelf) (map string_bytes c.args.words.now) _ _ _ _ (sym same ∙ e) (sym c.deref.ensures.value) (rw c.as_mut_slice.ensures.value at c.in-Ok.ensures.answer),
+    under _ g.S.Shelf.tells (g.S.Shelf.file c.args.shelf.now) (g.S.Shelf.handed c.answer_to.new.shelf) (map string_bytes c.args.words.now) _ _ _ _
+        (sym same ∙ e) (sym c.deref.ensures.value) (rw c.as_mut_slice.ensures.value at c.in-Ok.ensures.answer),
     c.write_text.ensures.all_taken same,
     c.write_text.ensures.whole same,
   )
@@ -38,13 +40,15 @@ returns-in-Ok-clause-not_shown g c = λ e. elim c.write_text.ensures.one_of_two 
 
 pub returns-in-Ok-clause-read_fault : goal.returns-in-Ok-clause-read_fault
 returns-in-Ok-clause-read_fault g c = λ e. elim c.write_text.ensures.one_of_two [
-  | inl same ↦ absurd (subst IsTold (sym same ∙ e) (told _ g.S.Shelf.tells (g.S.Shelf.file c.args.shelf.now) (g.S.Shelf.handed c.answer_to.new.shelf) (map string_bytes c.args.words.now) _ c.in-Ok.ensures.answer))
+  | inl same ↦ absurd (subst IsTold (sym same ∙ e) (told _ g.S.Shelf.tells (g.S.Shelf.file c.args.shelf.now) (g.S.Shelf.handed c.answer_to.new.shelf)
+      (map string_bytes c.args.words.now) _ c.in-Ok.ensures.answer))
   | inr fault ↦ let none : ⊥ = cc in absurd none
 ]
 
 pub returns-in-Ok-clause-memory : goal.returns-in-Ok-clause-memory
 returns-in-Ok-clause-memory g c = λ e. elim c.write_text.ensures.one_of_two [
-  | inl same ↦ absurd (subst IsTold (sym same ∙ e) (told _ g.S.Shelf.tells (g.S.Shelf.file c.args.shelf.now) (g.S.Shelf.handed c.answer_to.new.shelf) (map string_bytes c.args.words.now) _ c.in-Ok.ensures.answer))
+  | inl same ↦ absurd (subst IsTold (sym same ∙ e) (told _ g.S.Shelf.tells (g.S.Shelf.file c.args.shelf.now) (g.S.Shelf.handed c.answer_to.new.shelf)
+      (map string_bytes c.args.words.now) _ c.in-Ok.ensures.answer))
   | inr fault ↦ let none : ⊥ = cc in absurd none
 ]
 
@@ -64,7 +68,8 @@ returns-in-Ok-clause-write_fault g c = λ e.
     let part = c.write_text.ensures.part e in (
       _,
       c.deref.result.now,
-      under _ g.S.Shelf.tells (g.S.Shelf.file c.args.shelf.now) (g.S.Shelf.handed c.answer_to.new.shelf) (map string_bytes c.args.words.now) _ _ _ _ refl (sym c.deref.ensures.value) (rw c.as_mut_slice.ensures.value at c.in-Ok.ensures.answer),
+      under _ g.S.Shelf.tells (g.S.Shelf.file c.args.shelf.now) (g.S.Shelf.handed c.answer_to.new.shelf) (map string_bytes c.args.words.now) _ _ _ _
+          refl (sym c.deref.ensures.value) (rw c.as_mut_slice.ensures.value at c.in-Ok.ensures.answer),
       part.0,
       part.1,
       part.2,
@@ -75,7 +80,8 @@ returns-in-Err-TooLong-clause-write_fault g c = λ e.
     let part = c.write_text-in-Err-TooLong.ensures.part e in (
       _,
       c.too_long_text.result.now,
-      under _ g.S.Shelf.tells (g.S.Shelf.file c.args.shelf.now) (g.S.Shelf.handed c.answer_to.new.shelf) (map string_bytes c.args.words.now) _ _ _ _ refl (sym c.too_long_text.ensures) (rw c.as_mut_slice.ensures.value at (rw c.in-Err-TooLong.field-0-is at c.in-Err-TooLong.ensures.cause)),
+      under _ g.S.Shelf.tells (g.S.Shelf.file c.args.shelf.now) (g.S.Shelf.handed c.answer_to.new.shelf) (map string_bytes c.args.words.now) _ _ _ _
+          refl (sym c.too_long_text.ensures) (rw c.as_mut_slice.ensures.value at (rw c.in-Err-TooLong.field-0-is at c.in-Err-TooLong.ensures.cause)),
       part.0,
       part.1,
       part.2,
@@ -86,7 +92,9 @@ returns-in-Err-Refused-clause-write_fault g c = λ e.
     let part = c.write_text-in-Err-Refused.ensures.part e in (
       _,
       c.deref-in-Err-Refused.result.now,
-      under _ g.S.Shelf.tells (g.S.Shelf.file c.args.shelf.now) (g.S.Shelf.handed c.answer_to.new.shelf) (map string_bytes c.args.words.now) _ _ _ _ refl (sym c.deref-in-Err-Refused.ensures.value) (rw c.as_mut_slice.ensures.value at (rw c.in-Err-Refused.field-0-is at c.in-Err-Refused.ensures.cause)),
+      under _ g.S.Shelf.tells (g.S.Shelf.file c.args.shelf.now) (g.S.Shelf.handed c.answer_to.new.shelf) (map string_bytes c.args.words.now) _ _ _ _
+          refl (sym c.deref-in-Err-Refused.ensures.value) (rw c.as_mut_slice.ensures.value at
+          (rw c.in-Err-Refused.field-0-is at c.in-Err-Refused.ensures.cause)),
       part.0,
       part.1,
       part.2,
@@ -97,12 +105,14 @@ returns-in-Err-Refused-clause-write_fault g c = λ e.
 pub returns-in-Ok-clause-complete : goal.returns-in-Ok-clause-complete
 returns-in-Ok-clause-complete g c = λ sound shelf sink. elim c.write_text.ensures.one_of_two [
   | inl same ↦
-      let given = given_sound _ g.S.Shelf.tells (g.S.Shelf.file c.args.shelf.now) (g.S.Shelf.handed c.answer_to.new.shelf) (map string_bytes c.args.words.now) sound _ c.in-Ok.ensures.answer in
+      let given = given_sound _ g.S.Shelf.tells (g.S.Shelf.file c.args.shelf.now) (g.S.Shelf.handed c.answer_to.new.shelf)
+      (map string_bytes c.args.words.now) sound _ c.in-Ok.ensures.answer in
       inr (
         done_or_not_shown _ (subst IsGiven (sym same) given),
         (
           c.deref.result.now,
-          under _ g.S.Shelf.tells (g.S.Shelf.file c.args.shelf.now) (g.S.Shelf.handed c.answer_to.new.shelf) (map string_bytes c.args.words.now) _ _ _ _ (sym same) (sym c.deref.ensures.value) (rw c.as_mut_slice.ensures.value at c.in-Ok.ensures.answer),
+          under _ g.S.Shelf.tells (g.S.Shelf.file c.args.shelf.now) (g.S.Shelf.handed c.answer_to.new.shelf) (map string_bytes c.args.words.now) _ _ _
+              _ (sym same) (sym c.deref.ensures.value) (rw c.as_mut_slice.ensures.value at c.in-Ok.ensures.answer),
           c.write_text.ensures.all_taken same,
           c.write_text.ensures.whole same,
         ),
@@ -117,11 +127,14 @@ returns-in-Err-Usage-clause-complete g c = λ sound shelf sink.
 
 pub returns-in-Err-TooLong-clause-complete : goal.returns-in-Err-TooLong-clause-complete
 returns-in-Err-TooLong-clause-complete g c = λ sound shelf sink.
-    absurd (given_sound _ g.S.Shelf.tells (g.S.Shelf.file c.args.shelf.now) (g.S.Shelf.handed c.answer_to.new.shelf) (map string_bytes c.args.words.now) sound (refused_by too_long_line) (rw c.in-Err-TooLong.field-0-is at c.in-Err-TooLong.ensures.cause))
+    absurd (given_sound _ g.S.Shelf.tells (g.S.Shelf.file c.args.shelf.now) (g.S.Shelf.handed c.answer_to.new.shelf)
+    (map string_bytes c.args.words.now) sound (refused_by too_long_line) (rw c.in-Err-TooLong.field-0-is at c.in-Err-TooLong.ensures.cause))
 
 pub returns-in-Err-Refused-clause-complete : goal.returns-in-Err-Refused-clause-complete
 returns-in-Err-Refused-clause-complete g c = λ sound shelf sink.
-    absurd (given_sound _ g.S.Shelf.tells (g.S.Shelf.file c.args.shelf.now) (g.S.Shelf.handed c.answer_to.new.shelf) (map string_bytes c.args.words.now) sound (refused_by c.in-Err-Refused.line.items) (rw c.in-Err-Refused.field-0-is at c.in-Err-Refused.ensures.cause))
+    absurd (given_sound _ g.S.Shelf.tells (g.S.Shelf.file c.args.shelf.now) (g.S.Shelf.handed c.answer_to.new.shelf)
+    (map string_bytes c.args.words.now) sound (refused_by c.in-Err-Refused.line.items)
+    (rw c.in-Err-Refused.field-0-is at c.in-Err-Refused.ensures.cause))
 
 pub returns-in-Err-Read-clause-complete : goal.returns-in-Err-Read-clause-complete
 returns-in-Err-Read-clause-complete g c = λ sound shelf sink.
@@ -133,12 +146,14 @@ returns-in-Err-Read-clause-complete g c = λ sound shelf sink.
 pub returns-in-Ok-clause-complete_handed : goal.returns-in-Ok-clause-complete_handed
 returns-in-Ok-clause-complete_handed g c = λ sound shelf sink. elim c.write_text.ensures.one_of_two [
   | inl same ↦
-      let given = given_handed _ g.S.Shelf.tells (g.S.Shelf.file c.args.shelf.now) (g.S.Shelf.handed c.answer_to.new.shelf) (map string_bytes c.args.words.now) sound _ c.in-Ok.ensures.answer in
+      let given = given_handed _ g.S.Shelf.tells (g.S.Shelf.file c.args.shelf.now) (g.S.Shelf.handed c.answer_to.new.shelf)
+      (map string_bytes c.args.words.now) sound _ c.in-Ok.ensures.answer in
       inr (
         done_or_not_shown _ (subst IsGiven (sym same) given),
         (
           c.deref.result.now,
-          under _ g.S.Shelf.tells (g.S.Shelf.file c.args.shelf.now) (g.S.Shelf.handed c.answer_to.new.shelf) (map string_bytes c.args.words.now) _ _ _ _ (sym same) (sym c.deref.ensures.value) (rw c.as_mut_slice.ensures.value at c.in-Ok.ensures.answer),
+          under _ g.S.Shelf.tells (g.S.Shelf.file c.args.shelf.now) (g.S.Shelf.handed c.answer_to.new.shelf) (map string_bytes c.args.words.now) _ _ _
+              _ (sym same) (sym c.deref.ensures.value) (rw c.as_mut_slice.ensures.value at c.in-Ok.ensures.answer),
           c.write_text.ensures.all_taken same,
           c.write_text.ensures.whole same,
         ),
@@ -153,11 +168,14 @@ returns-in-Err-Usage-clause-complete_handed g c = λ sound shelf sink.
 
 pub returns-in-Err-TooLong-clause-complete_handed : goal.returns-in-Err-TooLong-clause-complete_handed
 returns-in-Err-TooLong-clause-complete_handed g c = λ sound shelf sink.
-    absurd (given_handed _ g.S.Shelf.tells (g.S.Shelf.file c.args.shelf.now) (g.S.Shelf.handed c.answer_to.new.shelf) (map string_bytes c.args.words.now) sound (refused_by too_long_line) (rw c.in-Err-TooLong.field-0-is at c.in-Err-TooLong.ensures.cause))
+    absurd (given_handed _ g.S.Shelf.tells (g.S.Shelf.file c.args.shelf.now) (g.S.Shelf.handed c.answer_to.new.shelf)
+    (map string_bytes c.args.words.now) sound (refused_by too_long_line) (rw c.in-Err-TooLong.field-0-is at c.in-Err-TooLong.ensures.cause))
 
 pub returns-in-Err-Refused-clause-complete_handed : goal.returns-in-Err-Refused-clause-complete_handed
 returns-in-Err-Refused-clause-complete_handed g c = λ sound shelf sink.
-    absurd (given_handed _ g.S.Shelf.tells (g.S.Shelf.file c.args.shelf.now) (g.S.Shelf.handed c.answer_to.new.shelf) (map string_bytes c.args.words.now) sound (refused_by c.in-Err-Refused.line.items) (rw c.in-Err-Refused.field-0-is at c.in-Err-Refused.ensures.cause))
+    absurd (given_handed _ g.S.Shelf.tells (g.S.Shelf.file c.args.shelf.now) (g.S.Shelf.handed c.answer_to.new.shelf)
+    (map string_bytes c.args.words.now) sound (refused_by c.in-Err-Refused.line.items)
+    (rw c.in-Err-Refused.field-0-is at c.in-Err-Refused.ensures.cause))
 
 pub returns-in-Err-Read-clause-complete_handed : goal.returns-in-Err-Read-clause-complete_handed
 returns-in-Err-Read-clause-complete_handed g c = λ sound shelf sink.
@@ -168,19 +186,22 @@ returns-in-Err-Read-clause-complete_handed g c = λ sound shelf sink.
 
 pub returns-in-Ok-clause-noted : goal.returns-in-Ok-clause-noted
 returns-in-Ok-clause-noted g c = λ e. elim c.write_text.ensures.one_of_two [
-  | inl same ↦ absurd (subst IsTold (sym same ∙ e) (told _ g.S.Shelf.tells (g.S.Shelf.file c.args.shelf.now) (g.S.Shelf.handed c.answer_to.new.shelf) (map string_bytes c.args.words.now) _ c.in-Ok.ensures.answer))
+  | inl same ↦ absurd (subst IsTold (sym same ∙ e) (told _ g.S.Shelf.tells (g.S.Shelf.file c.args.shelf.now) (g.S.Shelf.handed c.answer_to.new.shelf)
+      (map string_bytes c.args.words.now) _ c.in-Ok.ensures.answer))
   | inr fault ↦ let none : ⊥ = cc in absurd none
 ]
 
 pub returns-in-Ok-clause-fault_of_name : goal.returns-in-Ok-clause-fault_of_name
 returns-in-Ok-clause-fault_of_name g c = λ e a asks. elim c.write_text.ensures.one_of_two [
-  | inl same ↦ absurd (subst IsTold (sym same ∙ e) (told _ g.S.Shelf.tells (g.S.Shelf.file c.args.shelf.now) (g.S.Shelf.handed c.answer_to.new.shelf) (map string_bytes c.args.words.now) _ c.in-Ok.ensures.answer))
+  | inl same ↦ absurd (subst IsTold (sym same ∙ e) (told _ g.S.Shelf.tells (g.S.Shelf.file c.args.shelf.now) (g.S.Shelf.handed c.answer_to.new.shelf)
+      (map string_bytes c.args.words.now) _ c.in-Ok.ensures.answer))
   | inr fault ↦ let none : ⊥ = cc in absurd none
 ]
 
 pub returns-in-Ok-clause-calm_reads : goal.returns-in-Ok-clause-calm_reads
 returns-in-Ok-clause-calm_reads g c = λ calm held e. elim c.write_text.ensures.one_of_two [
-  | inl same ↦ subst IsTold (sym same ∙ e) (told _ g.S.Shelf.tells (g.S.Shelf.file c.args.shelf.now) (g.S.Shelf.handed c.answer_to.new.shelf) (map string_bytes c.args.words.now) _ c.in-Ok.ensures.answer)
+  | inl same ↦ subst IsTold (sym same ∙ e) (told _ g.S.Shelf.tells (g.S.Shelf.file c.args.shelf.now) (g.S.Shelf.handed c.answer_to.new.shelf)
+      (map string_bytes c.args.words.now) _ c.in-Ok.ensures.answer)
   | inr fault ↦ let none : ⊥ = cc in none
 ]
 
@@ -189,7 +210,8 @@ returns-in-Ok-clause-calm_reads g c = λ calm held e. elim c.write_text.ensures.
 pub returns-in-Ok-clause-refuses : goal.returns-in-Ok-clause-refuses
 returns-in-Ok-clause-refuses g c = λ line refused shelf sink. elim c.write_text.ensures.one_of_two [
   | inl same ↦
-      let line_is = refused_alone _ g.S.Shelf.tells (g.S.Shelf.file c.args.shelf.now) (g.S.Shelf.handed c.answer_to.new.shelf) (map string_bytes c.args.words.now) line refused _ c.in-Ok.ensures.answer in
+      let line_is = refused_alone _ g.S.Shelf.tells (g.S.Shelf.file c.args.shelf.now) (g.S.Shelf.handed c.answer_to.new.shelf)
+      (map string_bytes c.args.words.now) line refused _ c.in-Ok.ensures.answer in
       let text_is = c.deref.ensures.value ∙ line_is.1 in
       inr (
         same ∙ line_is.0,
@@ -207,7 +229,9 @@ returns-in-Err-Usage-clause-refuses g c = λ line refused shelf sink.
 pub returns-in-Err-TooLong-clause-refuses : goal.returns-in-Err-TooLong-clause-refuses
 returns-in-Err-TooLong-clause-refuses g c = λ line refused shelf sink. elim c.write_text-in-Err-TooLong.ensures.one_of_two [
   | inl same ↦
-      let line_is = refused_alone _ g.S.Shelf.tells (g.S.Shelf.file c.args.shelf.now) (g.S.Shelf.handed c.answer_to.new.shelf) (map string_bytes c.args.words.now) line refused (refused_by too_long_line) (rw c.in-Err-TooLong.field-0-is at c.in-Err-TooLong.ensures.cause) in
+      let line_is = refused_alone _ g.S.Shelf.tells (g.S.Shelf.file c.args.shelf.now) (g.S.Shelf.handed c.answer_to.new.shelf)
+      (map string_bytes c.args.words.now) line refused (refused_by too_long_line)
+      (rw c.in-Err-TooLong.field-0-is at c.in-Err-TooLong.ensures.cause) in
       let text_is = c.too_long_text.ensures ∙ line_is.1 in
       inr (
         same,
@@ -220,7 +244,9 @@ returns-in-Err-TooLong-clause-refuses g c = λ line refused shelf sink. elim c.w
 pub returns-in-Err-Refused-clause-refuses : goal.returns-in-Err-Refused-clause-refuses
 returns-in-Err-Refused-clause-refuses g c = λ line refused shelf sink. elim c.write_text-in-Err-Refused.ensures.one_of_two [
   | inl same ↦
-      let line_is = refused_alone _ g.S.Shelf.tells (g.S.Shelf.file c.args.shelf.now) (g.S.Shelf.handed c.answer_to.new.shelf) (map string_bytes c.args.words.now) line refused (refused_by c.in-Err-Refused.line.items) (rw c.in-Err-Refused.field-0-is at c.in-Err-Refused.ensures.cause) in
+      let line_is = refused_alone _ g.S.Shelf.tells (g.S.Shelf.file c.args.shelf.now) (g.S.Shelf.handed c.answer_to.new.shelf)
+      (map string_bytes c.args.words.now) line refused (refused_by c.in-Err-Refused.line.items)
+      (rw c.in-Err-Refused.field-0-is at c.in-Err-Refused.ensures.cause) in
       let text_is = c.deref-in-Err-Refused.ensures.value ∙ line_is.1 in
       inr (
         same,
@@ -239,7 +265,8 @@ returns-in-Err-Read-clause-refuses g c = λ line refused shelf sink.
 
 pub returns-in-Ok-clause-missing : goal.returns-in-Ok-clause-missing
 returns-in-Ok-clause-missing g c = λ missing.
-    absurd (nothing_called _ g.S.Shelf.tells (g.S.Shelf.file c.args.shelf.now) (g.S.Shelf.handed c.answer_to.new.shelf) (map string_bytes c.args.words.now) missing _ c.in-Ok.ensures.answer)
+    absurd (nothing_called _ g.S.Shelf.tells (g.S.Shelf.file c.args.shelf.now) (g.S.Shelf.handed c.answer_to.new.shelf)
+    (map string_bytes c.args.words.now) missing _ c.in-Ok.ensures.answer)
 
 pub returns-in-Err-Usage-clause-missing : goal.returns-in-Err-Usage-clause-missing
 returns-in-Err-Usage-clause-missing g c = λ missing.
@@ -248,19 +275,24 @@ returns-in-Err-Usage-clause-missing g c = λ missing.
 
 pub returns-in-Err-TooLong-clause-missing : goal.returns-in-Err-TooLong-clause-missing
 returns-in-Err-TooLong-clause-missing g c = λ missing.
-    absurd (nothing_called _ g.S.Shelf.tells (g.S.Shelf.file c.args.shelf.now) (g.S.Shelf.handed c.answer_to.new.shelf) (map string_bytes c.args.words.now) missing (refused_by too_long_line) (rw c.in-Err-TooLong.field-0-is at c.in-Err-TooLong.ensures.cause))
+    absurd (nothing_called _ g.S.Shelf.tells (g.S.Shelf.file c.args.shelf.now) (g.S.Shelf.handed c.answer_to.new.shelf)
+    (map string_bytes c.args.words.now) missing (refused_by too_long_line) (rw c.in-Err-TooLong.field-0-is at c.in-Err-TooLong.ensures.cause))
 
 pub returns-in-Err-Refused-clause-missing : goal.returns-in-Err-Refused-clause-missing
 returns-in-Err-Refused-clause-missing g c = λ missing.
-    absurd (nothing_called _ g.S.Shelf.tells (g.S.Shelf.file c.args.shelf.now) (g.S.Shelf.handed c.answer_to.new.shelf) (map string_bytes c.args.words.now) missing (refused_by c.in-Err-Refused.line.items) (rw c.in-Err-Refused.field-0-is at c.in-Err-Refused.ensures.cause))
+    absurd (nothing_called _ g.S.Shelf.tells (g.S.Shelf.file c.args.shelf.now) (g.S.Shelf.handed c.answer_to.new.shelf)
+    (map string_bytes c.args.words.now) missing (refused_by c.in-Err-Refused.line.items)
+    (rw c.in-Err-Refused.field-0-is at c.in-Err-Refused.ensures.cause))
 
 -- A text that there is room for is written without a fault.
 
 pub returns-in-Ok-clause-roomy : goal.returns-in-Ok-clause-roomy
 returns-in-Ok-clause-roomy g c = λ fits.
-    let called = under _ g.S.Shelf.tells (g.S.Shelf.file c.args.shelf.now) (g.S.Shelf.handed c.answer_to.new.shelf) (map string_bytes c.args.words.now) _ _ _ _ refl (sym c.deref.ensures.value) (rw c.as_mut_slice.ensures.value at c.in-Ok.ensures.answer) in
+    let called = under _ g.S.Shelf.tells (g.S.Shelf.file c.args.shelf.now) (g.S.Shelf.handed c.answer_to.new.shelf)
+    (map string_bytes c.args.words.now) _ _ _ _ refl (sym c.deref.ensures.value) (rw c.as_mut_slice.ensures.value at c.in-Ok.ensures.answer) in
     let written = c.write_text.ensures.roomy (fits _ c.deref.result.now called) in (
-      λ e. subst IsTold (sym written.0 ∙ e) (told _ g.S.Shelf.tells (g.S.Shelf.file c.args.shelf.now) (g.S.Shelf.handed c.answer_to.new.shelf) (map string_bytes c.args.words.now) _ c.in-Ok.ensures.answer),
+      λ e. subst IsTold (sym written.0 ∙ e) (told _ g.S.Shelf.tells (g.S.Shelf.file c.args.shelf.now) (g.S.Shelf.handed c.answer_to.new.shelf)
+          (map string_bytes c.args.words.now) _ c.in-Ok.ensures.answer),
       written.1,
     )
 
@@ -272,12 +304,16 @@ returns-in-Err-Usage-clause-roomy g c = λ fits.
 
 pub returns-in-Err-TooLong-clause-roomy : goal.returns-in-Err-TooLong-clause-roomy
 returns-in-Err-TooLong-clause-roomy g c = λ fits.
-    let called = under _ g.S.Shelf.tells (g.S.Shelf.file c.args.shelf.now) (g.S.Shelf.handed c.answer_to.new.shelf) (map string_bytes c.args.words.now) _ _ _ _ refl (sym c.too_long_text.ensures) (rw c.as_mut_slice.ensures.value at (rw c.in-Err-TooLong.field-0-is at c.in-Err-TooLong.ensures.cause)) in
+    let called = under _ g.S.Shelf.tells (g.S.Shelf.file c.args.shelf.now) (g.S.Shelf.handed c.answer_to.new.shelf)
+    (map string_bytes c.args.words.now) _ _ _ _ refl (sym c.too_long_text.ensures)
+    (rw c.as_mut_slice.ensures.value at (rw c.in-Err-TooLong.field-0-is at c.in-Err-TooLong.ensures.cause)) in
     let written = c.write_text-in-Err-TooLong.ensures.roomy (fits _ c.too_long_text.result.now called) in
     (λ e. subst IsTold (sym written.0 ∙ e) tt, written.1)
 
 pub returns-in-Err-Refused-clause-roomy : goal.returns-in-Err-Refused-clause-roomy
 returns-in-Err-Refused-clause-roomy g c = λ fits.
-    let called = under _ g.S.Shelf.tells (g.S.Shelf.file c.args.shelf.now) (g.S.Shelf.handed c.answer_to.new.shelf) (map string_bytes c.args.words.now) _ _ _ _ refl (sym c.deref-in-Err-Refused.ensures.value) (rw c.as_mut_slice.ensures.value at (rw c.in-Err-Refused.field-0-is at c.in-Err-Refused.ensures.cause)) in
+    let called = under _ g.S.Shelf.tells (g.S.Shelf.file c.args.shelf.now) (g.S.Shelf.handed c.answer_to.new.shelf)
+    (map string_bytes c.args.words.now) _ _ _ _ refl (sym c.deref-in-Err-Refused.ensures.value)
+    (rw c.as_mut_slice.ensures.value at (rw c.in-Err-Refused.field-0-is at c.in-Err-Refused.ensures.cause)) in
     let written = c.write_text-in-Err-Refused.ensures.roomy (fits _ c.deref-in-Err-Refused.result.now called) in
     (λ e. subst IsTold (sym written.0 ∙ e) tt, written.1)
