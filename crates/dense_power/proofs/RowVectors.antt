@@ -20,11 +20,11 @@ module _ (m : Matrix) (i : ℕ) where
   abbrev pub row_weight : Values ℕ → Fraction
   row_weight f = total_below m.size (λ j. whole (entry_of m i j) *ℚ f j)
 
-  length-row_of : length (row_of m i) ≡ m.size
+  pub length-row_of : length (row_of m i) ≡ m.size
   unfolding row_of
   length-row_of = length-map-range_with_len (entry_of m i) 0 m.size
 
-  row_of-at : (j : ℕ) → j < m.size → get_or (row_of m i) j 0 ≡ entry_of m i j
+  pub row_of-at : (j : ℕ) → j < m.size → get_or (row_of m i) j 0 ≡ entry_of m i j
   unfolding row_of
   row_of-at j h = get_or-map-range_with_len (entry_of m i) 0 m.size j j 0 h (omega arith)
 

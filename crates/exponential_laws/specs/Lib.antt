@@ -1,0 +1,2 @@
+pub mod Exponential
+pub mod Laws

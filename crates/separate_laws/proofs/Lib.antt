@@ -1,0 +1,10 @@
+pub mod Steps
+pub mod Multiples
+pub mod Together
+pub mod Lengths
+pub mod Within
+pub mod Powers
+pub mod Places
+pub mod Expected
+pub mod Reduced
+pub mod Separates
