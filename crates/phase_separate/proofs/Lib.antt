@@ -1,0 +1,12 @@
+pub mod Extents
+pub mod ExtentSums
+pub mod Passing
+pub mod Separate
+pub mod Visits
+pub mod Changes
+pub mod Lowered
+pub mod Ends
+pub mod Losses
+pub mod Phases
+pub mod Begun
+pub mod Digits

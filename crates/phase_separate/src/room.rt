@@ -1,0 +1,160 @@
+//! The room for the beats of the subsystems of a loop.
+
+ghost use Rattle.std.specs.Prelude.{◌≡◌, ℕ, ◌+◌, ◌^◌, ◌<◌, ◌≤◌, length, replicate, IfOk};
+ghost use Rattle.sil_model.specs.Sizes.{states_of};
+ghost use Rattle.product_chain.specs.Kept.{IsTimed};
+ghost use Rattle.vector_laws.specs.Vectors.{IsMass};
+ghost use Rattle.phase_run.specs.Passes.{Passes, block_beat_loss};
+ghost use Rattle.phase_separate.specs.Losses.{LoseLittle};
+ghost use Rattle.phase_separate.specs.Products.{separate_products};
+ghost use Rattle.phase_separate.specs.Subsystems.{HaveFewStates};
+
+use crate::phase::{dwell_all, lower_visited, narrow, pass_ends, visit_all, widen};
+use crate::subsystems::{begin, subsystems_of};
+use product_chain::Chain;
+use series_weights::Weights;
+use sil_model::{Loop, Steps};
+use std::alloc::{AllocError, Global};
+use std::marker::Model;
+use std::snapshot::Snapshot;
+use std::sync::ledger::Ledger;
+use subsystem_power::SubsystemPower;
+use uniformise::Workspace;
+
+/// Room for the beats of the subsystems of a loop, each for itself. Contracts see it as the loop.
+#[derive(Drop)]
+pub struct SeparateRoom {
+    // The loop, for proofs alone: it has no bytes.
+    of: Snapshot<Loop>,
+    weights: Weights,
+    subsystems: Vec<SubsystemPower>,
+    /// The vector at the start of a phase.
+    start: Vec<u64>,
+    /// A vector that is passed along the subsystems, and room for it.
+    now: Vec<u64>,
+    next: Vec<u64>,
+    /// The sum of the vectors at the start of each beat.
+    visited: Vec<u64>,
+    /// The vector at the end of a phase.
+    later: Vec<u64>,
+    /// The mean of the vectors at the start of each beat.
+    mean: Vec<u128>,
+}
+
+impl Model for SeparateRoom {
+    ghost use Rattle.sil_model.specs.LoopValue.{LoopValue};
+    ghost use Rattle.phase_separate.specs.Rooms.{HasRoom};
+
+    ghost Value = { LoopValue };
+
+    ghost view = { λ r. r.of.value };
+
+    ghost invariant = { HasRoom };
+}
+
+impl SeparateRoom {
+    /// Room for the subsystems of a loop whose vectors have this size, timed for a phase of so many hours in so many beats.
+    pub fn new(
+        alloc: Global,
+        l: &Loop,
+        size: usize,
+        hours: u64,
+        beats: u64,
+    ) -> Result<SeparateRoom, AllocError>
+        requires size { size ≡ states_of l.now.subsystems }
+        requires few { HaveFewStates l.now.subsystems }
+        requires timed { IsTimed l.now.subsystems hours beats }
+        ensures { IfOk result (λ r. r ≡ l.now) }
+    {
+        Ok(SeparateRoom {
+            of: Snapshot::of(l),
+            weights: Weights::new(16),
+            subsystems: subsystems_of(alloc, l, hours, beats)?,
+            start: vec![in alloc; 0u64; size]?,
+            now: vec![in alloc; 0u64; size]?,
+            next: vec![in alloc; 0u64; size]?,
+            visited: vec![in alloc; 0u64; size]?,
+            later: vec![in alloc; 0u64; size]?,
+            mean: vec![in alloc; 0u128; size]?,
+        })
+    }
+
+    /// Passes all beats of a phase: `v` goes to its end, and `dwell` becomes what the vector dwells in them.
+    #[allow(clippy::too_many_arguments)]
+    pub fn pass_beats<L: Ledger>(
+        &mut self,
+        work: &mut Workspace,
+        chain: &Chain,
+        beats: u64,
+        hours: u64,
+        v: &mut [u128],
+        dwell: &mut [u128],
+        steps: &mut Steps<L>,
+    )
+        requires same { self.old ≡ chain.now.of }
+        requires beats { beats ≡ chain.now.beats }
+        requires hours { hours ≡ chain.now.hours }
+        requires work { work.old ≡ states_of chain.now.of.subsystems }
+        requires v { length v.old ≡ states_of chain.now.of.subsystems }
+        requires dwell { length dwell.old ≡ states_of chain.now.of.subsystems }
+        requires mass { IsMass v.old }
+        requires little { LoseLittle chain.now.of.subsystems beats }
+        ensures same { self.new ≡ self.old }
+        ensures work { work.new ≡ work.old }
+        ensures passes { Passes chain.now 16 (block_beat_loss chain.now.of.subsystems) beats v.old v.new (replicate (states_of chain.now.of.subsystems) 0) dwell.new }
+        ensures steps { (digits : ℕ) → beats < 2 ^ digits → steps.new ≤ steps.old + separate_products chain.now.of.subsystems digits }
+    {
+        // The values of its loop are in their ranges, and its beats are enough.
+        let _ = chain.columns();
+        narrow(v, self.start.as_mut_slice());
+        begin(
+            chain,
+            self.subsystems.as_mut_slice(),
+            &self.weights,
+            hours,
+            beats,
+            steps,
+        );
+        visit_all(
+            chain,
+            self.subsystems.as_mut_slice(),
+            beats,
+            self.start.as_slice(),
+            self.visited.as_mut_slice(),
+            &mut self.now,
+            &mut self.next,
+            steps,
+        );
+        pass_ends(
+            chain,
+            self.subsystems.as_slice(),
+            beats,
+            self.start.as_slice(),
+            self.later.as_mut_slice(),
+            &mut self.now,
+            &mut self.next,
+            steps,
+        );
+        widen(self.later.as_slice(), v);
+        lower_visited(
+            chain,
+            self.subsystems.as_slice(),
+            beats,
+            self.start.as_slice(),
+            self.visited.as_mut_slice(),
+            &mut self.now,
+            &mut self.next,
+            steps,
+        );
+        dwell_all(
+            work,
+            chain,
+            &self.weights,
+            beats,
+            self.visited.as_slice(),
+            self.mean.as_mut_slice(),
+            dwell,
+            steps,
+        );
+    }
+}
