@@ -7,12 +7,15 @@ Time and peak memory are those of the whole program, from start to end, the best
 ticks and products are counted here, apart from the program, by the method that docs/MODEL.md describes, which is run for
 it and takes a minute: of each phase the binary digits of its beats, of each block of beats the ticks of its rung, of each
 tick the ways with a weight between the count vectors that the phase goes over; where a phase goes by the powers of its
-beat, one beat from each count vector and the products of matrices. No figure is a test. Standard library only.
+beat, one beat from each count vector and the products of matrices; where each subsystem passes it for itself, the same of
+each subsystem, the products of its matrices and the vector, and one beat of the loop. No figure is a test. Standard
+library only.
 """
 import subprocess
 import sys
 import tempfile
 import time
+from dataclasses import replace
 from itertools import product
 from pathlib import Path
 
@@ -41,11 +44,26 @@ repair = 4
 """
 
 
-def all_ways(lumped):
-    """How many ways with a rate lead between all count vectors, and to each of them from itself."""
+def all_states(lumped):
+    """All count vectors, those that cannot be reached too."""
     shares = [[(n - i, i - j, j - k, k) for i in range(n + 1) for j in range(i + 1) for k in range(j + 1)]
               for _, _, n in lumped.groups]
-    return sum(1 + len({target for target, _, _ in lumped.events(state)}) for state in product(*shares))
+    return product(*shares)
+
+
+def all_ways(lumped):
+    """How many ways with a rate lead between all count vectors, and to each of them from itself."""
+    return sum(1 + len({target for target, _, _ in lumped.events(state)}) for state in all_states(lumped))
+
+
+class Whole(Mission):
+    """The method over all count vectors."""
+
+    def reach(self):
+        self.states = list(all_states(self.lumped))
+        self.numbers = {state: number for number, state in enumerate(self.states)}
+        self.events = [self.lumped.events(state) for state in self.states]
+        self.in_order = range(len(self.states))
 
 
 class Counted(Mission):
@@ -53,6 +71,7 @@ class Counted(Mission):
 
     def __init__(self, loop):
         self.ticks = self.products = self.places = 0
+        self.timed_for = None
         super().__init__(loop)
 
     def count(self, low, numbers, places, ways):
@@ -81,6 +100,34 @@ class Counted(Mission):
             self.products += joins * 2 * states**3
         self.products += 2 * states**2
         return super().powers(hours, beats)
+
+
+    def alone(self):
+        if not self.separate:
+            self.separate = [Whole(replace(self.loop, subsystems=[s])) for s in self.loop.subsystems]
+        return super().alone()
+
+    def pass_separately(self, vector, hours, beats):
+        subsystems = self.alone()
+        cubes = sum(len(alone.states)**3 for alone in subsystems)
+        if self.timed_for != (hours, beats):
+            self.timed_for = hours, beats
+            for alone in subsystems:
+                for _ in alone.states:
+                    self.count(0, self.ends, len(alone.states), all_ways(alone.lumped))
+            self.products += 4 * cubes
+        self.products += (beats.bit_length() - 1 + bin(beats).count("1") - 1) * cubes
+        self.count(0, self.ends, self.lumped.state_count, all_ways(self.lumped))
+        return super().pass_separately(vector, hours, beats)
+
+    def along(self, vector, matrices):
+        self.places = max(self.places, sum(x > 0 for x in vector))
+        for i, rows in enumerate(matrices):
+            # The lines that differ in the digit i alone and have something, each once for each entry of the matrix.
+            lines = {digits[:i] + digits[i + 1:] for x, digits in zip(vector, self.digits) if x}
+            self.products += len(lines) * sum(weight > 0 for row in rows for weight in row)
+            vector = self.along_one(vector, i, rows)
+        return vector
 
 
 def counted(path):

@@ -9,8 +9,9 @@ refusal is printed. Vectors have only the states that can be reached, which does
 only; a loop of three subsystems takes about ten seconds.
 """
 import sys
+from dataclasses import replace
 from fractions import Fraction
-from math import comb, factorial
+from math import comb, factorial, prod
 from operator import itemgetter, mul
 
 from loop_reader import Refused, read_loop
@@ -22,6 +23,11 @@ LAST_RUNG, MOST_MISSING = 12, 200
 SMALL_WORK, BLOCK_WORK = 16_384, 64
 # A loop of at most so many states may pass its phases by powers of the beat.
 POWERS_STATES = 64
+# The subsystems of a loop pass a phase each for itself where that takes at most so many products for each state and beat, each
+# has at most so many states, and there are fewer beats than these.
+SEPARATE_PRODUCTS, SEPARATE_STATES, SEPARATE_BEATS = 2, 64, 1 << 15
+# What so many beats more have of a vector bounds what is lost of it, divided by 2 to this power, for each beat.
+BEATS_ON, PART_ON = 16, 46
 # For fewer beats no states are chosen; those into which the beats bring at most so much for each of them are left out.
 LEAST_BEATS, LEAST_MASS = 8, 16
 # With fewer beats before its greatest blocks a phase is passed in one part.
@@ -66,12 +72,23 @@ def followed(first, second):
     return end, [[a + b for a, b in zip(*columns)] for columns in zip(first[1], dwell)]
 
 
+def product(first, second):
+    """The product of two matrices of rows, rounded down."""
+    columns = list(zip(*second))
+    return [[sum(map(mul, row, column)) >> 48 for column in columns] for row in first]
+
+
+def added(first, second):
+    return [a + b for a, b in zip(first, second)]
+
+
 class Ladder:
     """The numbers of 2, 4, 8, .. beats at once: of k ticks `numbers[k - low]`, each list the square of the one before it."""
 
     def __init__(self, lumped):
         numbers, low, self.rungs = series_weights(16)[0], 0, []
-        work, longest = lumped.beats * lumped.state_count, max(beats for _, beats in lumped.phases)
+        in_blocks = [beats for _, beats in lumped.phases if not lumped.passes_separately(beats)]
+        work, longest = sum(in_blocks) * lumped.state_count, max(in_blocks, default=0)
         greatest = min(longest, work // BLOCK_WORK) if work >= SMALL_WORK else 0
         self.is_made = greatest > 0
         for exponent in range(1, LAST_RUNG + 1):
@@ -143,6 +160,28 @@ class Lumped:
         of_beat = states * (order * (events + 1) + 2 * order + 1)
         of_powers = states * of_beat + 4 * states**3 * beats.bit_length() + 2 * states**2
         return states <= POWERS_STATES and of_powers < beats * of_beat
+
+    def sizes(self):
+        """For each subsystem how many states it has, and how many events lead from each."""
+        groups = [[size for s, _, size in self.groups if s is subsystem] for subsystem in self.loop.subsystems]
+        return [(prod(comb(size + 3, 3) for size in sizes), 4 * len(sizes) + 3) for sizes in groups]
+
+    def passes_separately(self, beats):
+        """Whether a phase takes few products, at most, where each subsystem passes it for itself, and loses little so."""
+        sizes, states, events, digits = self.sizes(), self.state_count, self.event_count(), beats.bit_length()
+        if len(sizes) < 2 or max(size for size, _ in sizes) > SEPARATE_STATES or beats >= SEPARATE_BEATS:
+            return False
+        of_beat = lambda count, ways: count * (16 * (ways + 1) + 33)
+        along, cubes = states * sum(size for size, _ in sizes), sum(size**3 for size, _ in sizes)
+        products = sum(size * of_beat(size, ways) + 4 * size**3 for size, ways in sizes) \
+            + 2 * digits * (along + cubes) + 3 * along + of_beat(states, events)
+        of_powers = states * states * (self.loop.order * (events + 1) + 2 * self.loop.order + 1) \
+            + 4 * states**3 * digits + 2 * states**2
+        lack, rounded = sum(2 * ways + 3 * size + 13 for size, ways in sizes), len(sizes) * states
+        vectors = 2 * beats * lack + 3 * rounded + 16 * lack + 16 * (beats + 16)
+        all_lost = beats * lack + rounded + 2 * states + 9 * beats + 2 * events + 2 * states + 13 + 256
+        return products <= SEPARATE_PRODUCTS * beats * states and (states > POWERS_STATES or products <= of_powers) \
+            and states * vectors <= 1 << 46 and all_lost <= beats * (2 * events + 2 * states + 200)
 
     def event_count(self):
         return 4 * len(self.groups) + 3 * len(self.loop.subsystems)
@@ -217,7 +256,7 @@ class Mission:
         self.loop = loop
         self.lumped = lumped = Lumped(loop)
         self.ends, self.means, self.missing = series_weights(loop.order)
-        self.ladder, self.kept = Ladder(lumped), {}
+        self.ladder, self.kept, self.separate, self.digits = Ladder(lumped), {}, [], []
         self.reach()
         self.up = [lumped.is_up(state) for state in self.states]
         self.entry = [sum(steps for target, steps, _ in events if not self.up[self.numbers[target]]) if up else 0
@@ -311,12 +350,66 @@ class Mission:
             2 * (beats * sum(before) - sum(dwell)) <= beats * beats * loss
 
     def run_phase(self, vector, hours, beats):
-        if self.lumped.passes_by_powers(beats):
+        if self.lumped.passes_separately(beats):
+            vector, total = self.pass_separately(vector, hours, beats)
+        elif self.lumped.passes_by_powers(beats):
             end, dwell = self.powers(hours, beats)
             vector, total = times(vector, end), times(vector, dwell)
         else:
             vector, total = self.pass_blocks(vector, hours, beats)
         return vector, [hours * (x // beats) + hours * (x % beats) // beats for x in total]
+
+    def pass_separately(self, vector, hours, beats):
+        """The beats of each subsystem, as the powers of the matrix of one beat of it, along its digit of the vector."""
+        one = [alone.beat_rows(hours, beats) for alone in self.alone()]
+        sixteen, power, visited, whole = one, one, vector, sum(vector)
+        for _ in range(4):
+            sixteen = [product(rows, rows) for rows in sixteen]
+        for digit in bin(beats)[3:]:
+            visited, power = added(visited, self.along(visited, power)), [product(rows, rows) for rows in power]
+            if digit == "1":
+                visited, power = added(visited, self.along(vector, power)), [product(*pair) for pair in zip(power, one)]
+        end = self.along(vector, power)
+        end = self.lowered(end, self.along(end, sixteen), beats, 1, whole)
+        visited = self.lowered(visited, self.along(visited, sixteen), beats, beats, whole)
+        ends, means, _ = series_weights(16)
+        _, dwell = self.pass_block(self.chain(hours, beats), [x // beats for x in visited], 0, ends, means)
+        return end, [x * beats for x in dwell]
+
+    def alone(self):
+        """A mission of each subsystem for itself, and for each state of the loop the numbers of its states there."""
+        if not self.separate:
+            self.separate = [Mission(replace(self.loop, subsystems=[s])) for s in self.loop.subsystems]
+        if not self.digits:
+            ends = [len(alone.lumped.groups) for alone in self.separate]
+            self.digits = [tuple(alone.numbers[state[sum(ends[:i]):sum(ends[:i + 1])]] for i, alone in enumerate(self.separate))
+                           for state in self.states]
+            self.place_of = {digits: place for place, digits in enumerate(self.digits)}
+        return self.separate
+
+    def beat_rows(self, hours, beats):
+        """Row i is what is left of the whole at the state i after one beat."""
+        chain, (ends, means, _), size = self.chain(hours, beats), series_weights(16), len(self.states)
+        return [self.pass_block(chain, [ONE if j == i else 0 for j in range(size)], 0, ends, means)[0] for i in range(size)]
+
+    def along(self, vector, matrices):
+        """What a matrix of each subsystem brings of a vector, one after another."""
+        for i, rows in enumerate(matrices):
+            vector = self.along_one(vector, i, rows)
+        return vector
+
+    def along_one(self, vector, i, rows):
+        total = [0] * len(vector)
+        for x, digits in zip(vector, self.digits):
+            for to, weight in enumerate(rows[digits[i]] if x else []):
+                if weight:
+                    total[self.place_of[digits[:i] + (to,) + digits[i + 1:]]] += x * weight
+        return [x >> 48 for x in total]
+
+    def lowered(self, vector, later, beats, times, whole):
+        """A vector less what ticks beyond the order of a beat may have brought into it."""
+        lacked = 2 * times * whole - sum(vector) - sum(later) + 16 * times * (beats + BEATS_ON)
+        return [max(0, (x << PART_ON) - beats * (x + y + lacked)) >> PART_ON for x, y in zip(vector, later)]
 
     def powers(self, hours, beats):
         """The columns of the matrix of so many beats and of that of the dwell in them, by the binary digits of the beats."""

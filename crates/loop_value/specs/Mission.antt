@@ -20,12 +20,22 @@ use Rattle.phase_laws.specs.Arrived.{HasArrived}
 use Rattle.phase_powers.specs.Products.{powered_products}
 use Rattle.phase_powers.specs.Kept.{PowersValue, IsOfNoOther}
 use Rattle.loop_value.specs.declared.mission.Machine.{Machine}
+use Rattle.loop_value.specs.declared.separate.Separate.{Separate}
 use Rattle.loop_value.specs.declared.preparing.Prepared.{Prepared}
 
 -- powers of the loop, where it has few enough states
 abbrev pub HavePowers : LoopValue → Option PowersValue → Type 0
 HavePowers l None = 64 < states_of l.subsystems
 HavePowers l (Some p) = (p.size ≡ states_of l.subsystems) × IsOfNoOther p.of l × (states_of l.subsystems ≤ 64)
+
+-- room for its subsystems, where it has any
+abbrev pub IsRoomOf : LoopValue → Option Separate → Type 0
+IsRoomOf l None = Unit {0}
+IsRoomOf l (Some s) = (s.extent ≡ l) × (s.room ≡ l)
+
+abbrev pub HasSome : Option Separate → Type 0
+HasSome None = ⊥
+HasSome (Some s) = Unit {0}
 
 -- its parts are those of the loop, and the chain is timed for phases of `hours`
 pub record IsOf (l : LoopValue) (m : Machine) : Type 0 where
@@ -36,6 +46,7 @@ pub record IsOf (l : LoopValue) (m : Machine) : Type 0 where
   pub places : m.places ≡ l
   pub tests : m.tests ≡ l
   pub powers : HavePowers l m.powers
+  pub separate : IsRoomOf l m.separate
 
 -- the greatest rate at which a loop may go down
 abbrev pub greatest_of : LoopValue → Fraction

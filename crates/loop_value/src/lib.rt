@@ -8,6 +8,7 @@ mod mission;
 mod preparing;
 #[cfg(test)]
 mod restart_tests;
+mod separate;
 mod telling;
 #[cfg(test)]
 mod tests;

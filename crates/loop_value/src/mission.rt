@@ -14,15 +14,19 @@ ghost use Rattle.mission_laws.specs.UnderWay.{PassesPhase};
 ghost use Rattle.phase_laws.specs.Laws.{PassesBeats};
 ghost use Rattle.uniformise.specs.Beat.{beat_products};
 ghost use Rattle.phase_powers.specs.Products.{powered_products};
-ghost use Rattle.loop_value.specs.Mission.{IsOf, IsPlanOf, HasReached, greatest_of, phase_products, powered_phase, tests_products, test_products};
+ghost use Rattle.phase_separate.specs.Losses.{LoseLittle};
+ghost use Rattle.phase_separate.specs.Products.{separate_products};
+ghost use Rattle.loop_value.specs.Mission.{IsOf, HasSome, IsPlanOf, HasReached, greatest_of, phase_products, powered_phase, tests_products, test_products};
 ghost use Rattle.loop_value.specs.Sizes.{HaveRoom, powered_until};
 ghost use Rattle.loop_value.specs.Records.{HasFed, HasFedInPart, HasFedPhase, HasFedPhaseInPart};
 
+use crate::separate::{Separate, takes_few};
 use crate::telling::tell;
 use beat_ladder::Ladder;
 use lumping::Space;
 use phase_powers::{Powers, run_phase_powered};
 use phase_run::{PlaceRoom, run_phase_by_ladder};
+use phase_separate::run_phase_separately;
 use product_chain::Chain;
 use series_weights::Weights;
 use sil_model::{Loop, Steps};
@@ -52,6 +56,8 @@ pub struct Machine {
     pub places: PlaceRoom,
     /// The powers of a beat, where there are few states.
     pub powers: Option<Powers>,
+    /// The beats of each subsystem for itself, where there are several and each has few count vectors.
+    pub separate: Option<Separate>,
     /// The tests of an hour.
     pub tests: Tests,
 }
@@ -82,7 +88,8 @@ fn retime(m: &mut Machine, l: &Loop, hours: u64, beats: u64)
 }
 
 /// One phase of so many hours: the vector goes to its end, `mean` becomes its mean over the phase, and the dwell grows by
-/// the hours times that mean. It goes by powers where these take fewer products at most.
+/// the hours times that mean. It goes by the beats of each subsystem where these take few products, and by powers where these
+/// take fewer at most than its beats.
 fn pass_phase<L: Ledger>(
     m: &mut Machine,
     l: &Loop,
@@ -113,11 +120,36 @@ fn pass_phase<L: Ledger>(
     let beats = beats_of(l, hours);
     let digits = u64::from(beats.ilog2()) + 1;
     retime(m, l, hours, beats);
-    if takes_fewer_by_powers(m, l, beats, digits) {
+    if takes_few_separately(m, l, beats, digits) {
+        pass_separately(m, l, hours, beats, v, mean, dwell, steps);
+    } else if takes_fewer_by_powers(m, l, beats, digits) {
         pass_by_powers(m, l, hours, beats, v, mean, dwell, steps);
     } else {
         pass_by_blocks(m, l, hours, beats, v, mean, dwell, steps);
     }
+}
+
+/// Whether a phase of beats with so many binary digits takes few products by the beats of each subsystem, and no more than by
+/// powers.
+fn takes_few_separately(m: &Machine, l: &Loop, beats: u64, digits: u64) -> bool
+    requires parts { IsOf l.now m.now }
+    requires few { beats ≤ most_beats }
+    requires digits { digits ≤ 64 }
+    ensures room { IsTrue result → HasSome m.now.separate }
+    ensures little { IsTrue result → LoseLittle l.now.subsystems beats }
+    ensures fewer { IsTrue result → separate_products l.now.subsystems digits ≤ beats * beat_products l.now.subsystems m.now.weights }
+    ensures than_powers { IsTrue result → states_of l.now.subsystems ≤ 64
+        → separate_products l.now.subsystems digits ≤ powered_products l.now.subsystems m.now.weights digits }
+{
+    prove!(m.weights.order() >= 16);
+    let Some(separate) = &m.separate else {
+        return false;
+    };
+    let states = m.space.size() as u64;
+    if states <= 64 && separate.extent.products(digits) > products_of_powers(m, l, states, digits) {
+        return false;
+    }
+    takes_few(&separate.extent, states, beats, digits)
 }
 
 /// Whether a phase of beats with so many binary digits takes fewer products at most by powers than by its beats.
@@ -135,10 +167,20 @@ fn takes_fewer_by_powers(m: &Machine, l: &Loop, beats: u64, digits: u64) -> bool
         return false;
     }
     let of_beat = products_of_beat(l, states, u64::from(m.weights.order()));
-    let of_powers = states * of_beat
+    products_of_powers(m, l, states, digits) < beats * of_beat
+}
+
+/// How many products a phase of beats with so many binary digits takes at most by powers.
+fn products_of_powers(m: &Machine, l: &Loop, states: u64, digits: u64) -> u64
+    requires states { states ≡ states_of l.now.subsystems }
+    requires few { states ≤ 64 }
+    requires digits { digits ≤ 64 }
+    ensures value { result ≡ powered_products l.now.subsystems m.now.weights digits }
+    ensures small { result ≤ 2 ^ 40 }
+{
+    states * products_of_beat(l, states, u64::from(m.weights.order()))
         + 4 * (states * states * states) * digits
-        + 2 * (states * states);
-    of_powers < beats * of_beat
+        + 2 * (states * states)
 }
 
 /// How many products a beat takes at most.
@@ -231,6 +273,54 @@ fn pass_by_powers<L: Ledger>(
     match &mut m.powers {
         Some(powers) => run_phase_powered(
             powers,
+            &mut m.work,
+            &m.chain,
+            &m.weights,
+            beats,
+            hours,
+            v,
+            mean,
+            dwell,
+            steps,
+        ),
+        None => unreachable!(),
+    }
+}
+
+/// A phase by the beats of each subsystem.
+#[allow(clippy::too_many_arguments)]
+fn pass_separately<L: Ledger>(
+    m: &mut Machine,
+    l: &Loop,
+    hours: u64,
+    beats: u64,
+    v: &mut [u128],
+    mean: &mut [u128],
+    dwell: &mut [u128],
+    steps: &mut Steps<L>,
+)
+    requires parts { IsOf l.now m.old }
+    requires hours { hours ≡ m.old.hours }
+    requires beats { beats ≡ beats_of l.now.subsystems hours }
+    requires separate { HasSome m.old.separate }
+    requires little { LoseLittle l.now.subsystems beats }
+    requires v { length v.old ≡ states_of l.now.subsystems }
+    requires mean { length mean.old ≡ states_of l.now.subsystems }
+    requires dwell { length dwell.old ≡ states_of l.now.subsystems }
+    requires mass { IsMass v.old }
+    requires room { All (λ x. x + hours * 2 ^ 48 ≤ 350_400 * 2 ^ 48) dwell.old }
+    ensures parts { IsOf l.now m.new }
+    ensures weights { m.new.weights ≡ m.old.weights }
+    ensures passes { PassesPhase l.now.subsystems m.old.weights hours (beats_of l.now.subsystems hours) v.old v.new dwell.old dwell.new }
+    ensures loses { LosesInPhase (beats_of l.now.subsystems hours * beat_loss_of l.now.subsystems m.old.weights) hours (states_of l.now.subsystems)
+        v.old v.new dwell.old dwell.new }
+    ensures beats { PassesBeats l.now.subsystems m.old.weights hours v.old mean.new v.new }
+    ensures separate { (digits : ℕ) → beats < 2 ^ digits → steps.new ≤ steps.old + separate_products l.now.subsystems digits }
+{
+    let _ = l;
+    match &mut m.separate {
+        Some(separate) => run_phase_separately(
+            &mut separate.room,
             &mut m.work,
             &m.chain,
             &m.weights,

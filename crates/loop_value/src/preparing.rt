@@ -5,6 +5,7 @@ ghost use Rattle.sil_model.specs.Sizes.{all_beats_of, most_beats, states_of, mos
 ghost use Rattle.loop_value.specs.Mission.{IsOf, IsPlanOf, IsPrepared, HavePowers};
 
 use crate::mission::Machine;
+use crate::separate::{Separate, separate_of, takes_few};
 use beat_ladder::Ladder;
 use common_cause::events;
 use entry_rates::{entry_rates, up_states};
@@ -122,7 +123,8 @@ fn machine(
     let hours = plan.hours(0);
     let chain = Chain::new(alloc, l, &space, hours, beats_of(l, hours))?;
     let work = Workspace::new(alloc, space.size())?;
-    let ladder = Ladder::new(alloc, beats_of_ladder(l, plan, space.size()))?;
+    let separate = separate_of(alloc, l, space.size(), hours, beats_of(l, hours))?;
+    let ladder = Ladder::new(alloc, beats_of_ladder(l, plan, space.size(), &separate))?;
     let places = PlaceRoom::new(alloc, l, &chain, space.size())?;
     let powers = powers_of(alloc, l, space.size())?;
     let tests = Tests::new(alloc, l, &space)?;
@@ -135,6 +137,7 @@ fn machine(
         ladder,
         places,
         powers,
+        separate,
         tests,
     })
 }
@@ -155,21 +158,42 @@ fn powers_of(alloc: Global, l: &Loop, size: usize) -> Result<Option<Powers>, All
 
 /// Up to how many beats the blocks of a ladder go. The figures are true with any.
 ///
-/// No block is longer than the longest phase. And where the mission is short or its states are few, greater blocks would take
+/// No block is longer than the longest phase that needs blocks. And where the mission is short or its states are few, greater blocks would take
 /// longer to make than they save; in the smallest missions there are none.
-fn beats_of_ladder(l: &Loop, plan: &Plan, states: usize) -> u64
+fn beats_of_ladder(l: &Loop, plan: &Plan, states: usize, separate: &Option<Separate>) -> u64
     requires plan { IsPlanOf l.now plan.now }
+    requires few_states { states ≤ most_states }
+    requires few_beats { all_beats_of l.now ≤ most_beats }
 {
     let mut longest = 0;
     let mut all = 0u64;
     for p in 0..plan.phases() {
         let beats = beats_of(l, plan.hours(p));
-        longest = beats.max(longest);
-        all = all.saturating_add(beats);
+        if !passes_separately(separate, states as u64, beats) {
+            longest = beats.max(longest);
+            all = all.saturating_add(beats);
+        }
     }
     let work = all.saturating_mul(states as u64);
     if work < SMALL_WORK {
         return 0;
     }
     longest.min(work / LADDER_PRODUCTS)
+}
+
+/// Whether a phase of so many beats passes by the beats of each subsystem, so that it needs no blocks.
+fn passes_separately(separate: &Option<Separate>, states: u64, beats: u64) -> bool
+    requires some { 0 < beats }
+    requires few_states { states ≤ most_states }
+    requires few_beats { beats ≤ most_beats }
+{
+    match separate {
+        Some(separate) => takes_few(
+            &separate.extent,
+            states,
+            beats,
+            u64::from(beats.ilog2()) + 1,
+        ),
+        None => false,
+    }
 }
