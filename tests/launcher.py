@@ -28,6 +28,8 @@ LOW = """// A number, and the next one. MARK
 ghost use Rattle.std.specs.Prelude.{◌≡◌, ◌+◌, ◌<◌};
 
 mod more;
+#[cfg(test)]
+mod tests;
 
 pub use more::same;
 
@@ -44,6 +46,13 @@ pub fn same(x: u8) -> u8
     ensures { result ≡ x }
 {
     x
+}
+"""
+TESTS = """use crate::next;
+
+#[test]
+fn one_is_followed_by_two(rt: HostRuntime) {
+    assert_eq!(rt; next(1), 2);
 }
 """
 MAIN = """// Writes the files that its words name, and ends with 3, or with 4 where one cannot be read.
@@ -98,7 +107,8 @@ def want(holds, what, *seen):
 class Toy:
     def __init__(self, room, mark):
         self.top, self.here = room / "toy", room / "here"
-        for crate, files in (("low", {"lib.rt": LOW.replace("MARK", mark), "more.rt": MORE}), ("sil", {"main.rt": MAIN})):
+        low = {"lib.rt": LOW.replace("MARK", mark), "more.rt": MORE, "tests.rt": TESTS}
+        for crate, files in (("low", low), ("sil", {"main.rt": MAIN})):
             (self.top / "crates" / crate / "src").mkdir(parents=True)
             for name, text in files.items():
                 (self.top / "crates" / crate / "src" / name).write_text(text)
@@ -196,7 +206,7 @@ def broken_off(toy):
 
 def changed_sources(toy):
     """Sources that are changed, added, removed or put back, with any time; and what else the program rests on."""
-    files = {it: toy.top / it for it in ("crates/low/src/lib.rt", "crates/low/src/more.rt", "crates.txt", "HANDLES")}
+    files = {it: toy.top / it for it in ("crates/low/src/lib.rt", "crates/low/src/more.rt", "crates/low/src/tests.rt", "crates.txt", "HANDLES")}
     for name, file in files.items():
         text, clock = file.read_bytes(), file.stat()
         file.write_bytes(text + b"\n")
