@@ -17,9 +17,9 @@ program_of() {
 # One checksum of crates.txt, HANDLES and each file of the crates' src/, specs/ and proofs/, with its name.
 sources_sum() (
     cd "$1" || exit 1
-    set -- crates.txt HANDLES
-    for part in crates/*/src crates/*/specs crates/*/proofs; do
-        [ -d "$part" ] && set -- "$@" "$part"
+    set --
+    for part in crates.txt HANDLES crates/*/src crates/*/specs crates/*/proofs; do
+        [ -e "$part" ] && set -- "$@" "$part"
     done
     find "$@" ! -type d -exec sha256sum {} + | LC_ALL=C sort | sha256sum | cut -d ' ' -f 1
 )
