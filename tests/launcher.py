@@ -95,6 +95,12 @@ echo "run=ended status=0 runners=1 races=unchecked proved=no" >&2
 """
 # A path without rt, unless the kit is installed there.
 BARE = "/usr/bin:/bin"
+# A program that answers as that of the small crates does.
+OLD = """#!/bin/sh
+cat "$1"
+echo
+exit 3
+"""
 failures = []
 
 
@@ -146,6 +152,14 @@ class Toy:
         ran = subprocess.run([self.top / "prove"], **how)
         return ran.returncode, ran.stdout
 
+    def set_old(self):
+        """Sets a program of before in the place of the proved one, and notes it as proved of these sources."""
+        self.program.parent.mkdir()
+        self.program.write_text(OLD)
+        self.program.chmod(0o755)
+        script = '. tools/sources.sh && note_proved . "$(sources_sum .)"'
+        subprocess.run(["sh", "-c", script], cwd=self.top, env=self.stubbed, check=True)
+
     def is_taken_as_proved(self, what):
         """./sil runs the program that was proved, and says nothing."""
         seen = self.sil("one.txt", env=self.stubbed)
@@ -160,16 +174,13 @@ class Toy:
 
 def unproved(toy):
     """Before any proof: names are those of the caller's folder, and statuses and output the program's own."""
-    with ThreadPoolExecutor() as pool:
-        words = ["one.txt", "sub/with a blank.txt", "../above.txt", str(toy.here / "one.txt")]
-        well = pool.submit(toy.sil, *words)
-        lacking = pool.submit(toy.sil, "args", "../toy/crates.txt/", "src/main.rt", "stdout")
-    status, written, said = well.result()
-    want((status, written) == (3, "of the caller\nbelow\nabove\nof the caller\n"), "without a proof: files of the caller's folder", status, written)
+    known = ["one.txt", "sub/with a blank.txt", "../above.txt", str(toy.here / "one.txt")]
+    # Files of the crate's folder, and of the folder in which rt try runs a program, but not of the caller's.
+    unknown = ["args", "src/main.rt", "data", "stdout"]
+    status, written, said = toy.sil(*known, *unknown)
+    want(written == "of the caller\nbelow\nabove\nof the caller\n", "without a proof: the files of the caller's folder, and no others", written)
+    want(status == 4, "without a proof: the program's own status", status)
     want(LINE.fullmatch(said), "without a proof: one line says so", said)
-    status, written, said = lacking.result()
-    want((status, written) == (4, ""), "without a proof: a name of no file here reads none of the crate's", status, written)
-    want(LINE.fullmatch(said), "without a proof: one line says so where a file lacks", said)
 
 
 def words_of_try(toy):
@@ -187,10 +198,10 @@ def words_of_try(toy):
 
 def broken_off(toy):
     """A proof that is broken off leaves no program, and the next one goes on."""
-    run = subprocess.Popen([toy.top / "prove"], stdout=subprocess.PIPE, text=True, start_new_session=True)
+    run = subprocess.Popen([toy.top / "prove"], stdout=subprocess.PIPE, text=True)
     for line in run.stdout:
         if line.startswith("sil: 1 of 2 crates are proved"):
-            os.killpg(run.pid, signal.SIGINT)
+            run.send_signal(signal.SIGTERM)
             break
     run.stdout.read()
     want(run.wait() == 130 and not toy.program.exists(), "broken off: 130 and no program", run.returncode)
@@ -246,6 +257,8 @@ def changed_sources(toy):
 
 def broken_proof(toy, crate, file, old, new):
     """A proof that breaks: ./prove names the crate, and no program is left that could answer."""
+    toy.set_old()
+    toy.is_taken_as_proved("before a proof breaks")
     path = toy.top / "crates" / crate / "src" / file
     text = path.read_text()
     want(text.count(old) == 1, f"{old} stands once in {file}")
@@ -266,22 +279,17 @@ def main():
         # Sources that no run before has proved.
         mark = f"{os.getpid()} {time.time()}"
         toys = [Toy(Path(room) / str(number), mark) for number in range(4)]
-        with ThreadPoolExecutor() as pool:
-            first = pool.submit(unproved, toys[1])
-            broken_off(toys[0])
-            first.result()
-        for toy in toys[2:]:
-            shutil.copytree(toys[0].program.parent, toy.program.parent)
-            toy.is_taken_as_proved("in a copy")
-        with ThreadPoolExecutor() as pool:
+        with ThreadPoolExecutor(len(toys)) as pool:
             runs = [
+                pool.submit(broken_off, toys[0]),
+                pool.submit(unproved, toys[1]),
                 pool.submit(broken_proof, toys[2], "sil", "main.rt", "result ≡ 3", "result ≡ 4"),
                 pool.submit(broken_proof, toys[3], "low", "lib.rt", "result ≡ x + 1", "result ≡ x + 2"),
             ]
-            words_of_try(toys[1])
-            changed_sources(toys[0])
             for it in runs:
                 it.result()
+        words_of_try(toys[1])
+        changed_sources(toys[0])
     return 1 if failures else 0
 
 
