@@ -1,7 +1,7 @@
 #!/usr/bin/env python3
 """Times `check` on a handful of loops, and says how many products and ticks the method makes of each.
 
-usage: bench/bench.py PROGRAM [RUNS]        for example: bench/bench.py ./sil 5
+usage: bench/bench.py PROGRAM [RUNS]        for example: bench/bench.py crates/sil/out/sil 5
 
 Time and peak memory are those of the whole program, from start to end, the best of so many runs (5, if not said). Places,
 ticks and products are counted here, apart from the program, by the method that docs/MODEL.md describes, which is run for

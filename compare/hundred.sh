@@ -1,6 +1,6 @@
 #!/bin/sh
 # A hundred generated loops through a program that knows `check`, for docs/MANY-LOOPS.md: time, statuses and bands.
-# usage: compare/hundred.sh PROGRAM [AT ONCE]      for example: compare/hundred.sh ./sil 4
+# usage: compare/hundred.sh PROGRAM [AT ONCE]      for example: compare/hundred.sh crates/sil/out/sil 4
 program=$(realpath "$1") || exit 2
 top=$(cd "$(dirname "$0")/.." && pwd)
 folder=$(mktemp -d) && cd "$folder" || exit 1

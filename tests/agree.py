@@ -1,12 +1,13 @@
 #!/usr/bin/env python3
 """Do the figures agree? Closed forms, independent.py, forward.py and, where asked, the program.
 
-usage: agree.py FOLDER [PROGRAM]        for example: python3 tests/agree.py tests/loops ./sil
+usage: agree.py FOLDER [PROGRAM [--stored]]        for example: python3 tests/agree.py tests/loops crates/sil/out/sil
 
 The folder has loop files and expected.txt, whose lines are a file's name and its figures by independent.py, cut off
 after 20 decimals. For each loop the figures are computed anew and have to be in the intervals of forward.py and of the
 program, which may be no wider than the count of all roundings allows; that share is printed. Ends with 1 where
-something disagrees. `loops` takes two minutes, `larger` ten. Standard library only.
+something disagrees. `loops` takes two minutes, `larger` ten. With --stored, nothing is computed anew: the intervals of the
+program alone have to hold the figures of expected.txt, which takes seconds. Standard library only.
 """
 import subprocess
 import sys
@@ -104,6 +105,14 @@ def printed(program, path):
     return ends["pfd"], ends["pfh"]
 
 
+def faults_beside_stored(path, line, program):
+    for stored, ends in zip(line, printed(program, path)):
+        least = Fraction(stored)
+        # What was cut off is less than a unit of the last decimal.
+        if ends[1] < least * 10**18 or (least + Fraction(1, 10**20)) * 10**18 < ends[0]:
+            yield f"the program {ends} lacks {stored}"
+
+
 def faults_of(path, line, program):
     name, loop = path.stem, read_loop(path)
     if name in TOO_LARGE:
@@ -129,13 +138,17 @@ def faults_of(path, line, program):
 
 
 def main():
-    folder, program = Path(sys.argv[1]), sys.argv[2] if len(sys.argv) > 2 else None
+    words = [it for it in sys.argv[1:] if it != "--stored"]
+    compare = faults_beside_stored if "--stored" in sys.argv else faults_of
+    if not 1 <= len(words) <= 2 or compare is faults_beside_stored and len(words) < 2:
+        sys.exit(__doc__)
+    folder, program = Path(words[0]), words[1] if len(words) > 1 else None
     lines = [line.split() for line in (folder / "expected.txt").read_text().splitlines() if line[0] != "#"]
     if sorted(line[0] for line in lines) != sorted(path.stem for path in folder.glob("*.toml")):
         sys.exit("expected.txt has other names than the folder")
     faults = []
     for name, *line in lines:
-        faults += [f"{name}: {fault}" for fault in faults_of(folder / f"{name}.toml", line, program)]
+        faults += [f"{name}: {fault}" for fault in compare(folder / f"{name}.toml", line, program)]
     print("\n".join(faults) or f"{len(lines)} loops agree")
     sys.exit(1 if faults else 0)
 
