@@ -2,7 +2,7 @@
 
 ghost use Rattle.std.specs.Prelude.{◌≡◌, ◌<◌};
 
-use crate::{PlaceRoom, run_phase, run_phase_by_ladder};
+use crate::{PlaceRoom, run_phase_by_ladder};
 use beat_ladder::Ladder;
 use lumping::Space;
 use product_chain::Chain;
@@ -54,12 +54,24 @@ fn one_year<L: Ledger>(rt: &impl Abort, alloc: Global, blank: Blank) -> Result<(
     assert!(rt; beats_of(&l, 8760) <= 1096);
     let chain = Chain::new(alloc, &l, &space, 8760, 1096)?;
     let weights = Weights::new(28);
+    let ladder = Ladder::new(alloc, 0)?;
+    let mut places = PlaceRoom::new(alloc, &l, &chain, 4)?;
     let mut work = Workspace::new(alloc, 4)?;
     let mut v = [1 << 48, 0, 0, 0];
     let mut mean = [7; 4];
     let mut hours = [1; 4];
-    run_phase(
-        &mut work, &chain, &weights, 1096, 8760, &mut v, &mut mean, &mut hours, &mut steps,
+    run_phase_by_ladder(
+        &ladder,
+        &mut places,
+        &mut work,
+        &chain,
+        &weights,
+        1096,
+        8760,
+        &mut v,
+        &mut mean,
+        &mut hours,
+        &mut steps,
     );
     // 1096 beats of 819 units each
     let loss = 897_624;
