@@ -87,7 +87,7 @@ fn tick_over_chosen<L: Ledger>(
     requires mass { sum v.now ≤ 2 ^ 48 }
 {
     let mut chosen = PlaceChain::new(alloc, l, chain)?;
-    chosen.choose(chain, v, 3750, least);
+    chosen.choose(chain, v, 3750, least, steps);
     assert_eq!(rt; chosen.size(), places);
     let mut from = vec![in alloc; 0u64; chosen.size()]?;
     let mut to = vec![in alloc; 0u64; chosen.size()]?;
