@@ -337,12 +337,15 @@ class Mission:
         """The states over which blocks of beats are tried, or `None`."""
         if beats < LEAST_BEATS or not self.ladder.is_made:
             return None
-        places = self.heavy(vector, columns, beats + beats // 4, LEAST_MASS * beats)
-        few, many = (sum(weight and source in those for number in those for source, weight in zip(*columns[number]))
-                     for those in (places, reached))
         states, events = self.lumped.state_count, self.lumped.event_count()
-        both = 16 * (few + many) + 33 * (len(places) + len(reached))
-        return places if 16 * few <= 15 * many and both <= states * (16 * (events + 1) + 33) else None
+        entries = lambda those: sum(weight and source in those for number in those for source, weight in zip(*columns[number]))
+        of_beat = lambda those: 16 * entries(those) + 33 * len(those)
+        left = beats * states * (16 * (events + 1) + 33) - 3 * states * (events + 2)
+        if beats * of_beat(reached) > left:
+            return None
+        places = self.heavy(vector, columns, beats + beats // 4, LEAST_MASS * beats)
+        clearly_fewer = 16 * entries(places) <= 15 * entries(reached)
+        return places if clearly_fewer and beats * (of_beat(places) + of_beat(reached)) <= left else None
 
     def loses_little(self, before, after, dwell, beats):
         loss = 2 * self.lumped.event_count() + 2 * self.lumped.state_count + 200

@@ -8,4 +8,3 @@ pub mod Rungs
 pub mod Ladders
 pub mod Tails
 pub mod Passes
-pub mod Channels

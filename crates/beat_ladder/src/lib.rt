@@ -18,8 +18,6 @@ mod room;
 mod rung;
 mod square;
 mod sums;
-#[cfg(test)]
-mod tests;
 mod tick;
 
 pub use ladder::Ladder;

@@ -7,8 +7,6 @@
 mod event;
 mod list;
 mod share;
-#[cfg(test)]
-mod tests;
 
 pub use event::{LumpEvent, Rate};
 pub use list::events;

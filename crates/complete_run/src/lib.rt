@@ -22,9 +22,6 @@ use sil_model::MOST_FILE_BYTES;
 use sil_top::{Status, run};
 use std::alloc::{AllocError, Global};
 
-#[cfg(test)]
-mod tests;
-
 /// Room for every report.
 const ROOM: usize = 1024;
 

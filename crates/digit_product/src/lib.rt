@@ -7,8 +7,6 @@
 
 mod column;
 mod lines;
-#[cfg(test)]
-mod tests;
 
 ghost use Rattle.std.specs.Prelude.{◌≡◌, ℕ, ◌+◌, ◌*◌, ◌/◌, ◌^◌, ◌<◌, ◌≤◌, ◌≢◌, length, sum, slice_index, All};
 ghost use Rattle.dense_power.specs.Matrix.{EachEntryAtMost};

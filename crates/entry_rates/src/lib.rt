@@ -11,8 +11,6 @@ ghost use Rattle.entry_rates.specs.Greatest.{EntryLaw};
 
 mod event;
 mod rates;
-#[cfg(test)]
-mod tests;
 
 pub use rates::{entry_rates, failure_rate, up_states};
 

@@ -10,8 +10,6 @@
 mod dot;
 mod interval;
 mod ratio;
-#[cfg(test)]
-mod tests;
 
 pub use dot::Dot;
 pub use interval::Interval;

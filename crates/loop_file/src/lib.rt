@@ -18,6 +18,3 @@ mod values;
 
 pub use read::read_loop;
 pub use tree::members_in_order;
-
-#[cfg(test)]
-mod tests;

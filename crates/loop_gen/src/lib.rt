@@ -6,7 +6,5 @@
 
 mod drawing;
 mod generator;
-#[cfg(test)]
-mod tests;
 
 pub use drawing::{drawn_law, make_loop};

@@ -7,6 +7,3 @@
 mod print;
 
 pub use print::{print_loop, round_trip_law};
-
-#[cfg(test)]
-mod tests;

@@ -6,12 +6,8 @@ mod evaluating;
 mod measuring;
 mod mission;
 mod preparing;
-#[cfg(test)]
-mod restart_tests;
 mod separate;
 mod telling;
-#[cfg(test)]
-mod tests;
 
 pub use evaluating::value;
 pub use measuring::{ValueFault, measure};

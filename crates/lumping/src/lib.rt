@@ -16,8 +16,6 @@ ghost use Rattle.lumping.specs.Laws.{MovingLaw, NumberingLaws};
 
 mod group;
 mod space;
-#[cfg(test)]
-mod tests;
 
 pub use space::{Space, SpaceFault, state_count};
 

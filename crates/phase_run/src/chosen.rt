@@ -5,6 +5,7 @@ ghost use Rattle.sil_model.specs.Budget.{lumped_events_of};
 ghost use Rattle.sil_model.specs.Sizes.{states_of};
 ghost use Rattle.vector_laws.specs.Vectors.{IsMass};
 ghost use Rattle.uniformise.specs.Beat.{beat_products};
+ghost use Rattle.place_chain.specs.Sweeps.{choice_products};
 ghost use Rattle.phase_run.specs.Passes.{Passes, LosesLittle, block_beat_loss, beat_products_in_blocks};
 
 use crate::blocks::pass_blocks;
@@ -29,27 +30,41 @@ pub fn events_of(l: &Loop) -> u64
     4 * l.groups() as u64 + 3 * l.len() as u64
 }
 
+/// Whether a choice of places and then so many products for each beat come to no more than the beats may take.
+fn choice_fits(chain: &Chain, of_beat: u128, beats: u64, events: u64) -> bool
+    requires of_beat { of_beat ≤ 2 ^ 81 }
+    requires few { beats ≤ 1_000_000 }
+    requires events { events ≡ lumped_events_of chain.now.of.subsystems }
+    requires few_events { events ≤ 1_000 }
+    ensures { IsTrue result → choice_products chain.now.of.subsystems + beats * of_beat ≤ beats * beat_products chain.now.of.subsystems 16 }
+{
+    let states = (chain.columns().starts.len() - 1) as u128;
+    let events = u128::from(events);
+    let beats = u128::from(beats);
+    let choice = 3 * states * (events + 2);
+    let all = states * (16 * (events + 1) + 33);
+    choice + beats * of_beat <= beats * all
+}
+
 /// Whether beats may be tried over chosen places: these are clearly fewer than those that are reached, and should too much be
-/// lost, both tries take no more products than the beats may.
+/// lost, the choice and both tries take no more products than the beats may.
 fn may_be_tried(
     chosen: &PlaceChain,
     reached: &PlaceChain,
-    of_reached: u128,
-    states: usize,
+    chain: &Chain,
+    beats: u64,
     events: u64,
 ) -> bool
-    requires of_reached { of_reached ≡ beat_products_in_blocks reached.now.entries (length reached.now.places) }
-    requires small { of_reached ≤ 2 ^ 80 }
-    requires same { chosen.now.chain.of ≡ reached.now.chain.of }
-    requires states { states ≡ states_of reached.now.chain.of.subsystems }
-    requires events { events ≡ lumped_events_of reached.now.chain.of.subsystems }
+    requires few { beats ≤ 1_000_000 }
+    requires events { events ≡ lumped_events_of chain.now.of.subsystems }
     requires few_events { events ≤ 1_000 }
-    ensures { IsTrue result → beat_products_in_blocks chosen.now.entries (length chosen.now.places) + beat_products_in_blocks reached.now.entries (length reached.now.places)
-        ≤ beat_products reached.now.chain.of.subsystems 16 }
+    ensures { IsTrue result → choice_products chain.now.of.subsystems
+        + beats * (beat_products_in_blocks chosen.now.entries (length chosen.now.places) + beat_products_in_blocks reached.now.entries (length reached.now.places))
+        ≤ beats * beat_products chain.now.of.subsystems 16 }
 {
-    let all = states as u128 * (16 * (u128::from(events) + 1) + 33);
+    let of_both = products_of_beat(chosen) + products_of_beat(reached);
     16 * chosen.products() as u128 <= 15 * reached.products() as u128
-        && products_of_beat(chosen) + of_reached <= all
+        && choice_fits(chain, of_both, beats, events)
 }
 
 /// How many products a beat of a block takes over the places, at most.
@@ -189,9 +204,12 @@ pub fn pass_over_few<L: Ledger>(
     if beats < LEAST_BEATS || ladder.rungs() == 0 {
         return false;
     }
+    if !choice_fits(chain, of_reached, beats, events) {
+        return false;
+    }
     // What flows in goes by a tick for each beat in the mean; a quarter more is a margin.
-    chosen.choose(chain, v, beats + beats / 4, LEAST_MASS * beats);
-    if !may_be_tried(chosen, reached, of_reached, v.len(), events) {
+    chosen.choose(chain, v, beats + beats / 4, LEAST_MASS * beats, steps);
+    if !may_be_tried(chosen, reached, chain, beats, events) {
         return false;
     }
     pass_over_chosen(

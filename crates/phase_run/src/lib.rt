@@ -1,8 +1,8 @@
 //! The beats of a phase, and the mean over it.
 //!
-//! [`run_phase`] pushes a vector through all beats of a phase, from one test hour to the next. [`run_phase_by_ladder`] does
-//! the same by blocks of many beats, over the places that the vector reaches or over those that come to hold enough: fewer
-//! and smaller ticks, and the same clauses. Neither takes memory; a [`PlaceRoom`] is made before.
+//! [`run_phase_by_ladder`] pushes a vector through all beats of a phase, from one test hour to the next, by blocks of many
+//! beats, over the places that the vector reaches or over those that come to hold enough; without a rung, one by one. It
+//! takes no memory; a [`PlaceRoom`] is made before.
 //!
 //! - `blocks`: the beats of a phase by the rungs of a ladder.
 //! - `over`: blocks over the places that are reached. `chosen`: over chosen ones, if little is lost elsewhere.
@@ -15,17 +15,12 @@ mod chosen;
 mod over;
 mod part;
 mod places;
-#[cfg(test)]
-mod tests;
 
-ghost use Rattle.std.specs.Prelude.{◌≡◌, ℕ, ◌+◌, ◌*◌, ◌/◌, ◌^◌, ◌<◌, ◌≤◌, length, sum, slice_index, All};
-ghost use Rattle.sil_fraction.specs.Fraction.{◌+ℚ◌, ◌*ℚ◌, ◌≤ℚ◌, whole, ratio};
-ghost use Rattle.sil_model.specs.Series.{Values};
+ghost use Rattle.std.specs.Prelude.{◌≡◌, ℕ, ◌+◌, ◌*◌, ◌/◌, ◌^◌, ◌<◌, ◌≤◌, length, slice_index, All};
 ghost use Rattle.sil_model.specs.Sizes.{states_of};
 ghost use Rattle.sil_model.specs.Budget.{beat_loss_of};
 ghost use Rattle.vector_laws.specs.Laws.{AreFloors};
-ghost use Rattle.vector_laws.specs.Vectors.{weigh, IsMass};
-ghost use Rattle.lumped_laws.specs.ValueLists.{phase_list, phase_mean_list};
+ghost use Rattle.vector_laws.specs.Vectors.{IsMass};
 ghost use Rattle.uniformise.specs.Beat.{beat_products};
 ghost use Rattle.phase_run.specs.Passes.{Passes};
 
@@ -36,52 +31,6 @@ use series_weights::Weights;
 use sil_model::Steps;
 use std::sync::ledger::Ledger;
 use uniformise::Workspace;
-
-/// Runs the beats of a phase of so many hours: `v` becomes lower bounds of the vector at its end, `mean` lower bounds of
-/// its mean over the phase, and `dwell_hours` grows by lower bounds of hours times that mean. All are in units of 2^-48.
-#[allow(clippy::too_many_arguments)]
-pub fn run_phase<L: Ledger>(
-    work: &mut Workspace,
-    chain: &Chain,
-    weights: &Weights,
-    beats: u64,
-    hours: u64,
-    v: &mut [u128],
-    mean: &mut [u128],
-    dwell_hours: &mut [u128],
-    steps: &mut Steps<L>,
-)
-    requires beats { beats ≡ chain.now.beats }
-    requires hours { hours ≡ chain.now.hours }
-    requires work { work.old ≡ states_of chain.now.of.subsystems }
-    requires v { length v.old ≡ states_of chain.now.of.subsystems }
-    requires mean { length mean.old ≡ states_of chain.now.of.subsystems }
-    requires dwell { length dwell_hours.old ≡ states_of chain.now.of.subsystems }
-    requires mass { IsMass v.old }
-    requires room { All (λ x. x + hours * 2 ^ 48 ≤ 350_400 * 2 ^ 48) dwell_hours.old }
-    ensures work { work.new ≡ work.old }
-
-    // by every value list, at every order from that of the weights on
-    ensures ends { (N : ℕ) → weights.now ≤ N → (f : Values ℕ) → weigh v.new f ≤ℚ weigh v.old (phase_list chain.now.of.subsystems N (ratio hours beats) beats f) }
-    ensures means { (N : ℕ) → weights.now ≤ N → (f : Values ℕ) → weigh mean.new f ≤ℚ weigh v.old (phase_mean_list chain.now.of.subsystems N (ratio hours beats) beats f) }
-    ensures dwells { (N : ℕ) → weights.now ≤ N → (f : Values ℕ) → weigh dwell_hours.new f ≤ℚ weigh dwell_hours.old f +ℚ whole hours *ℚ weigh v.old (phase_mean_list chain.now.of.subsystems N (ratio hours beats) beats f) }
-
-    ensures kept { sum v.new ≤ sum v.old }
-    ensures mean_kept { sum mean.new ≤ sum v.old }
-    ensures dwell_kept { sum dwell_hours.new ≤ sum dwell_hours.old + hours * sum v.old }
-    ensures grows { (k : ℕ) → k < length dwell_hours.old → (slice_index dwell_hours.old k ≤ slice_index dwell_hours.new k) × (slice_index dwell_hours.new k ≤ slice_index dwell_hours.old k + hours * 2 ^ 48) }
-
-    ensures lack { sum v.old ≤ sum v.new + beats * beat_loss_of chain.now.of.subsystems weights.now }
-    ensures mean_lack { sum v.old ≤ sum mean.new + beats * beat_loss_of chain.now.of.subsystems weights.now + states_of chain.now.of.subsystems }
-    ensures dwell_lack { sum dwell_hours.old + hours * sum v.old ≤ sum dwell_hours.new + hours * (beats * beat_loss_of chain.now.of.subsystems weights.now) + states_of chain.now.of.subsystems }
-
-    ensures steps { steps.new ≤ steps.old + beats * beat_products chain.now.of.subsystems weights.now }
-{
-    prove!(beats == chain.beats());
-    mean.fill(0);
-    pass_beats(work, chain, weights, beats, v, mean, steps);
-    settle(mean, beats, hours, dwell_hours);
-}
 
 /// Passes so many beats, one after another.
 fn pass_beats<L: Ledger>(

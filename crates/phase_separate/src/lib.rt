@@ -21,8 +21,6 @@ mod means;
 mod phase;
 mod room;
 mod subsystems;
-#[cfg(test)]
-mod tests;
 mod visit;
 
 ghost use Rattle.std.specs.Prelude.{◌≡◌, ℕ, ◌+◌, ◌*◌, ◌^◌, ◌<◌, ◌≤◌, length, sum, slice_index, All};

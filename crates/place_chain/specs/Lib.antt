@@ -2,3 +2,4 @@ pub mod Marks
 pub mod Places
 pub mod PlaceChain
 pub mod Phases
+pub mod Sweeps

@@ -8,6 +8,7 @@ ghost use Rattle.sil_model.specs.Sizes.{states_of};
 ghost use Rattle.vector_laws.specs.Vectors.{weigh};
 ghost use Rattle.product_chain.specs.Kept.{events_number};
 ghost use Rattle.product_chain.specs.Weights.{weight_of};
+ghost use Rattle.place_chain.specs.Sweeps.{choice_products};
 ghost use Rattle.place_chain.specs.PlaceChain.{AreInOrder, AreNoMore, HaveAllAbove, IsWithin, IsGatheredFrom, at_places, step_of_places, tick_loss_of};
 
 use crate::closure::{mark_reached, mark_support};
@@ -113,12 +114,20 @@ impl PlaceChain {
 
     /// Chooses the places that hold more than `least` in a phase of so many ticks or into which it brings more, by an estimate,
     /// in units of 2^-48, and makes it the chain over these. Other count vectors may be reached by what is lost then.
-    pub fn choose(&mut self, chain: &Chain, v: &[u128], ticks: u64, least: u64)
+    pub fn choose<L: Ledger>(
+        &mut self,
+        chain: &Chain,
+        v: &[u128],
+        ticks: u64,
+        least: u64,
+        steps: &mut Steps<L>,
+    )
         requires same { self.old.chain.of ≡ chain.now.of }
         requires v { length v.now ≡ states_of chain.now.of.subsystems }
         ensures chain { self.new.chain ≡ chain.now }
         ensures open { self.new.closed ≡ false }
         ensures held { HaveAllAbove self.new.places least v.now }
+        ensures steps { steps.new ≤ steps.old + choice_products chain.now.of.subsystems }
     {
         let columns = chain.columns();
         mark_heavy(
@@ -129,6 +138,7 @@ impl PlaceChain {
             least,
             self.masses.as_mut_slice(),
             self.marks.as_mut_slice(),
+            steps,
         );
         list_places(
             self.marks.as_slice(),

@@ -3,11 +3,14 @@
 //! No clause says how good it is, but that what the vector holds is seen: what is lost with the count vectors that are left
 //! out shows at the end of the phase, by what the vector then lacks.
 
-ghost use Rattle.std.specs.Prelude.{◌≡◌, ℕ, true, ◌<◌, ◌^◌, length, slice_index, All};
+ghost use Rattle.std.specs.Prelude.{◌≡◌, ℕ, true, ◌+◌, ◌*◌, ◌<◌, ◌≤◌, ◌^◌, length, slice_index, All};
 ghost use Rattle.product_chain.specs.Columns.{AreWeighted};
 ghost use Rattle.place_chain.specs.Marks.{is_marked};
+ghost use Rattle.place_chain.specs.Sweeps.{swept_to};
 
 use product_chain::Entry;
+use sil_model::Steps;
+use std::sync::ledger::Ledger;
 
 const ONE: u64 = 1 << 48;
 
@@ -20,7 +23,8 @@ struct Flow {
 
 /// Marks the count vectors that hold more than `least` at the start of so many ticks or into which these bring more, in units
 /// of 2^-48.
-pub fn mark_heavy(
+#[allow(clippy::too_many_arguments)]
+pub fn mark_heavy<L: Ledger>(
     entries: &[Entry],
     starts: &[usize],
     v: &[u128],
@@ -28,19 +32,21 @@ pub fn mark_heavy(
     least: u64,
     masses: &mut [u64],
     marks: &mut [bool],
+    steps: &mut Steps<L>,
 )
     requires columns { AreWeighted (length marks.old) (length marks.old) starts.now entries.now }
     requires v { length v.now ≡ length marks.old }
     requires masses { length masses.old ≡ length marks.old }
     ensures held { (i : ℕ) → i < length v.now → least < slice_index v.now i → is_marked marks.new i ≡ true }
+    ensures steps { steps.new ≤ steps.old + 3 * (length entries.now + length v.now) }
 {
     start_masses(v, masses);
-    sweep_up(entries, starts, v, ticks, masses);
-    sweep_down(entries, starts, v, ticks, masses);
+    sweep_up(entries, starts, v, ticks, masses, steps);
+    sweep_down(entries, starts, v, ticks, masses, steps);
     let least = u128::from(least);
     for j in 0..marks.len() {
-        let flow = flow_into(entries, starts, j, masses);
-        marks[j] = v[j].saturating_add(brought(flow, ticks)) > least;
+        let flow = flow_into(entries, starts, j, masses, steps);
+        marks[j] = v[j].saturating_add(brought(flow, ticks, steps)) > least;
     }
 }
 
@@ -54,55 +60,91 @@ fn start_masses(v: &[u128], masses: &mut [u64])
 }
 
 /// Estimates the masses in the order of numbers. A fault leads to a later count vector, so that this follows any number of them.
-fn sweep_up(entries: &[Entry], starts: &[usize], v: &[u128], ticks: u64, masses: &mut [u64])
+fn sweep_up<L: Ledger>(
+    entries: &[Entry],
+    starts: &[usize],
+    v: &[u128],
+    ticks: u64,
+    masses: &mut [u64],
+    steps: &mut Steps<L>,
+)
     requires columns { AreWeighted (length masses.old) (length masses.old) starts.now entries.now }
     requires v { length v.now ≡ length masses.old }
+    ensures { steps.new ≤ steps.old + length entries.now + length v.now }
 {
     for j in 0..v.len() {
-        set_mass(entries, starts, v[j], ticks, j, masses);
+        set_mass(entries, starts, v[j], ticks, j, masses, steps);
     }
 }
 
 /// Estimates the masses against the order of numbers. A repair leads to an earlier count vector.
-fn sweep_down(entries: &[Entry], starts: &[usize], v: &[u128], ticks: u64, masses: &mut [u64])
+fn sweep_down<L: Ledger>(
+    entries: &[Entry],
+    starts: &[usize],
+    v: &[u128],
+    ticks: u64,
+    masses: &mut [u64],
+    steps: &mut Steps<L>,
+)
     requires columns { AreWeighted (length masses.old) (length masses.old) starts.now entries.now }
     requires v { length v.now ≡ length masses.old }
+    ensures { steps.new ≤ steps.old + length entries.now + length v.now }
 {
     for j in (0..v.len()).rev() {
-        set_mass(entries, starts, v[j], ticks, j, masses);
+        set_mass(entries, starts, v[j], ticks, j, masses, steps);
     }
 }
 
 /// Estimates the mass that a count vector comes to hold: what it holds at the start, and what flows in while, in the mean, it
 /// stays.
-fn set_mass(
+fn set_mass<L: Ledger>(
     entries: &[Entry],
     starts: &[usize],
     start: u128,
     ticks: u64,
     target: usize,
     masses: &mut [u64],
+    steps: &mut Steps<L>,
 )
     requires columns { AreWeighted (length masses.old) (length masses.old) starts.now entries.now }
     requires target { target < length masses.old }
+    ensures { steps.new + swept_to starts.now target ≤ steps.old + swept_to starts.now (target + 1) }
 {
-    let flow = flow_into(entries, starts, target, masses);
+    let flow = flow_into(entries, starts, target, masses, steps);
     let leaves = ONE.saturating_sub(flow.stays).max(1);
-    let held = start.saturating_add(brought(flow, ticks.min(ONE / leaves)));
+    let held = start.saturating_add(brought(flow, ticks.min(ONE / leaves), steps));
     masses[target] = held.min(u128::from(ONE)) as u64;
 }
 
 /// What flows into a count vector in a tick.
-fn flow_into(entries: &[Entry], starts: &[usize], target: usize, masses: &[u64]) -> Flow
+fn flow_into<L: Ledger>(
+    entries: &[Entry],
+    starts: &[usize],
+    target: usize,
+    masses: &[u64],
+    steps: &mut Steps<L>,
+) -> Flow
     requires columns { AreWeighted (length masses.now) (length masses.now) starts.now entries.now }
     requires target { target < length masses.now }
+    ensures { steps.new + slice_index starts.now target ≤ steps.old + slice_index starts.now (target + 1) }
 {
-    flow_through(&entries[starts[target]..starts[target + 1]], target, masses)
+    flow_through(
+        &entries[starts[target]..starts[target + 1]],
+        target,
+        masses,
+        steps,
+    )
 }
 
-/// What flows into a count vector through its column.
-fn flow_through(column: &[Entry], target: usize, masses: &[u64]) -> Flow
+/// What flows into a count vector through its column: a product for each entry from another.
+fn flow_through<L: Ledger>(
+    column: &[Entry],
+    target: usize,
+    masses: &[u64],
+    steps: &mut Steps<L>,
+) -> Flow
     requires sources { All (λ e. e.source < length masses.now) column.now }
+    ensures { steps.new ≤ steps.old + length column.now }
 {
     let mut moved = 0u128;
     let mut stays = 0;
@@ -112,6 +154,7 @@ fn flow_through(column: &[Entry], target: usize, masses: &[u64]) -> Flow
             stays = entry.weight;
         } else {
             let part = u128::from(masses[source]) * u128::from(entry.weight);
+            steps.count_one();
             moved = moved.saturating_add(part);
         }
     }
@@ -122,6 +165,9 @@ fn flow_through(column: &[Entry], target: usize, masses: &[u64]) -> Flow
 }
 
 /// What so many ticks bring, in units of 2^-48.
-fn brought(flow: Flow, ticks: u64) -> u128 {
+fn brought<L: Ledger>(flow: Flow, ticks: u64, steps: &mut Steps<L>) -> u128
+    ensures { steps.new ≡ steps.old + 1 }
+{
+    steps.count_one();
     flow.comes.saturating_mul(u128::from(ticks)) >> 24
 }

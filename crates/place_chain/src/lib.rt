@@ -22,8 +22,6 @@ mod closure;
 mod column;
 mod compact;
 mod estimate;
-#[cfg(test)]
-mod tests;
 
 pub use chain::PlaceChain;
 

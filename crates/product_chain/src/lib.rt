@@ -19,8 +19,6 @@ mod chain;
 mod column;
 mod moves;
 mod step;
-#[cfg(test)]
-mod tests;
 
 pub use chain::Chain;
 pub use column::{Columns, Entry, gather};

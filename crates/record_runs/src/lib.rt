@@ -1,4 +1,4 @@
-//! Records that are told of the phases of loops, against figures from outside. This crate has tests alone.
+//! Sizes of loops, and the records that are told of their phases, against figures from outside. This crate has tests alone.
 #![tactic(auto)]
 
 #[cfg(test)]

@@ -23,6 +23,30 @@ pub struct Sample {
     pub test: Option<TestPlan>,
 }
 
+/// One channel that fails once in a million hours, is repaired within 8 hours, and is never tested.
+pub const ONE_CHANNEL: Sample = Sample {
+    vote: Vote { m: 1, n: 1 },
+    figures: ChannelFigures {
+        du: 1_000_000,
+        dd: 0,
+        beta: 0,
+        beta_d: 0,
+        coverage: 1000,
+        restart_fault: 0,
+        repair: 8,
+    },
+    in_repair: InRepair::Lost,
+    test: None,
+};
+
+/// A full test of all channels each year.
+pub const YEARLY: TestPlan = TestPlan {
+    first: 8760,
+    every: 8760,
+    stagger: 0,
+    full_each: 1,
+};
+
 /// The loop of up to six subsystems, over a mission in hours, or `None` where a value is out of its range.
 pub fn sample_loop(
     alloc: Global,

@@ -5,9 +5,6 @@
 //! `Undecided` exactly where none does. No call takes memory, and none refuses.
 #![tactic(auto)]
 
-#[cfg(test)]
-mod tests;
-
 ghost use Rattle.std.specs.Prelude.{◌≡◌, ℕ, ◌*◌, ◌^◌, ◌≤◌, ◌<◌};
 ghost use Rattle.sil_model.specs.Bands.{IsInBand, IsBandOf, pfd_edge, pfh_edge};
 ghost use Rattle.sil_bands.specs.Meets.{meets_of};

@@ -9,8 +9,6 @@ mod answers;
 mod counter;
 mod limits;
 mod parts;
-#[cfg(test)]
-mod tests;
 mod texts;
 mod whole;
 

@@ -15,6 +15,3 @@ pub use refusals::{file_fault_text, limit_fault_text, too_long_text};
 pub use reports::report;
 pub use sizes::{counts_text, size_text};
 pub use usage::usage_text;
-
-#[cfg(test)]
-mod tests;

@@ -15,6 +15,3 @@ pub use decimal::{read_millionths, read_rate, read_thousandths};
 pub use fault::TextFault;
 pub use figure::{put_decimal18, texts_fix_numbers};
 pub use name::is_name;
-
-#[cfg(test)]
-mod tests;

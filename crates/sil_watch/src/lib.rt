@@ -18,6 +18,3 @@ pub use putting::put_lines;
 pub use record::PhaseRecord;
 pub use series::{Series, lines_fix_records};
 pub use watcher::Watcher;
-
-#[cfg(test)]
-mod tests;

@@ -10,8 +10,6 @@ mod ask;
 mod law;
 mod read;
 mod split;
-#[cfg(test)]
-mod tests;
 mod values;
 
 pub use ask::{Ask, Mode, WordFault};

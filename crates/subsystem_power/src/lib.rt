@@ -6,14 +6,13 @@
 //! - `alone`: a subsystem as a loop. `matrices`: how the matrices are made. `power`: the public type. `count`: of how many
 //!   beats the power is, for proofs.
 //!
-//! Only [`SubsystemPower::new`] takes memory.
+//! Only [`subsystem_alone`] and [`SubsystemPower::new`] take memory.
 #![tactic(auto)]
 
 mod alone;
 mod count;
 mod matrices;
 mod power;
-#[cfg(test)]
-mod tests;
 
+pub use alone::alone as subsystem_alone;
 pub use power::SubsystemPower;

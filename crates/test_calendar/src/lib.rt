@@ -11,8 +11,6 @@ mod groups;
 mod hours;
 mod phases;
 mod planning;
-#[cfg(test)]
-mod tests;
 
 pub use beats::beats_of;
 pub use counting::channel_tests;

@@ -18,8 +18,6 @@ ghost use Rattle.test_matrix.specs.HourTests.{HourLaw};
 mod places;
 mod spread;
 mod tables;
-#[cfg(test)]
-mod tests;
 mod weights;
 mod whole;
 

@@ -8,8 +8,6 @@
 #![tactic(auto)]
 
 mod sums;
-#[cfg(test)]
-mod tests;
 mod workspace;
 
 pub use workspace::Workspace;

@@ -6,8 +6,6 @@
 #![tactic(auto)]
 
 mod rows;
-#[cfg(test)]
-mod tests;
 mod verb;
 
 pub use rows::{ChoiceRow, Values, VerbRow, row_of_word, verb_rows};

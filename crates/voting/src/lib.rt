@@ -8,9 +8,6 @@ ghost use Rattle.sil_model.specs.Counts.{IsCounts};
 ghost use Rattle.lumped_laws.specs.CountsOfState.{counts_of_state};
 ghost use Rattle.voting.specs.Counting.{counting_in};
 
-#[cfg(test)]
-mod tests;
-
 use channel_counts::{STATES, groups_in, sum_in};
 use sil_model::{Chan, InRepair, Loop};
 

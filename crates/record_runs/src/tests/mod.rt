@@ -1,9 +1,10 @@
-//! What watchers hold after a loop's figures were computed.
+//! What watchers hold after a loop's figures were computed, and the sizes of loops.
 
 ghost use Rattle.std.specs.Prelude.{◌≡◌, ◌<◌};
 
 mod restart_faults;
 mod short_of_room;
+mod sizes;
 mod tests_each_hour;
 
 use loop_value::{ValueFault, value};

@@ -9,7 +9,7 @@ use std::alloc::{AllocError, Global};
 use std::test::Fail;
 
 /// A chance of 0.02 at a test, a repair of 8 hours, and tests at the hours 50 and 75 of a mission of 100.
-const ONE_CHANNEL: Sample = Sample {
+pub(crate) const RESTART_FAULTS: Sample = Sample {
     vote: Vote { m: 1, n: 1 },
     figures: ChannelFigures {
         du: 0,
@@ -44,7 +44,7 @@ phase 3 start 75 hours 25|25718803624810192|20478738672468148
 const WIDEST: u128 = 44_227_734;
 
 fn one_channel(alloc: Global) -> Result<Loop, Fail> {
-    Ok(sample_loop(alloc, 100, &[ONE_CHANNEL])?.ok_or("a value is out of its range")?)
+    Ok(sample_loop(alloc, 100, &[RESTART_FAULTS])?.ok_or("a value is out of its range")?)
 }
 
 /// So many series.

@@ -1,31 +1,10 @@
-//! As many phases as a loop can have.
+//! As many phases as a loop can have: one channel, tested each hour.
 
 use super::{Ended, holds, lines_of, told};
-use sample_loops::{Sample, sample_loop};
-use sil_model::{ChannelFigures, InRepair, TestPlan, Vote};
+use sample_loops::{ONE_CHANNEL, Sample, YEARLY, sample_loop};
+use sil_model::TestPlan;
 use sil_watch::{Series, Watcher};
 use std::test::Fail;
-
-/// One channel that fails once in a million hours, tested each hour.
-const ONE_CHANNEL: Sample = Sample {
-    vote: Vote { m: 1, n: 1 },
-    figures: ChannelFigures {
-        du: 1_000_000,
-        dd: 0,
-        beta: 0,
-        beta_d: 0,
-        coverage: 1000,
-        restart_fault: 0,
-        repair: 8,
-    },
-    in_repair: InRepair::Lost,
-    test: Some(TestPlan {
-        first: 1,
-        every: 1,
-        stagger: 0,
-        full_each: 1,
-    }),
-};
 
 /// How wide the interval of PFDavg of this loop may be: 4,097 beats that lose 819 units of 2^-48 each, 4,096 tests with 72, 4,097
 /// means with 4, and 8 at the end.
@@ -34,7 +13,15 @@ const WIDEST: u128 = 13_026_916_436;
 #[test]
 fn all_phases_in_their_order(rt: HostRuntime) -> Result<(), Fail> {
     let alloc = rt.alloc();
-    let l = sample_loop(alloc, 4097, &[ONE_CHANNEL])?.ok_or("a value is out of its range")?;
+    let hourly = Sample {
+        test: Some(TestPlan {
+            first: 1,
+            every: 1,
+            ..YEARLY
+        }),
+        ..ONE_CHANNEL
+    };
+    let l = sample_loop(alloc, 4097, &[hourly])?.ok_or("a value is out of its range")?;
     let mut feed: Vec<Box<dyn Watcher>> = Vec::new(alloc);
     feed.push(Box::new(alloc, Series::new(alloc))?)?;
     assert_eq!(rt; told(alloc, &l, feed.as_mut_slice(), 1), Ended::WithFigures);

@@ -1,5 +1,6 @@
 //! Runs of `check` over a shelf that holds one file.
 
+mod complete;
 mod reports;
 mod series;
 

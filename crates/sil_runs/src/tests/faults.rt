@@ -1,81 +1,75 @@
 //! Files that are not there, shelves that fail, and sinks that take no more.
 
-use super::{ONE_CHANNEL, ROOM, answers, answers_over, changed, ran, ran_over, run_into};
-use sil_io::{MemShelf, MemSink};
+use super::{ONE_CHANNEL, ROOM, changed, ran, ran_over, run_into, shelf_of};
+use sil_io::MemSink;
 use sil_top::Status;
 use std::alloc::Global;
 use std::test::Fail;
 
-/// A shelf that holds one channel.
-fn shelf_of_one(alloc: Global) -> Result<MemShelf, Fail> {
-    let mut shelf = MemShelf::new(alloc);
-    shelf.put("loop.toml", ONE_CHANNEL.as_bytes())?;
-    Ok(shelf)
-}
+/// A line, whether a pick fails, after how many bytes the sink fails, and the status and the text that follow.
+type Row = (&'static str, bool, usize, Status, &'static str);
 
-/// A name that the shelf does not hold: nothing is written.
-#[test]
-fn missing_file(rt: HostRuntime) -> Result<(), Fail> {
-    for line in ["check other.toml --need 1", "size other.toml"] {
-        assert!(rt;
-            answers(
-                rt.alloc(),
-                line,
-                ONE_CHANNEL.as_bytes(),
-                Status::ReadFault,
-                ""
-            )?,
-            "{line}"
-        );
-    }
-    Ok(())
-}
-
-/// A sink that fails after ten bytes has the first ten bytes of each text.
-#[test]
-fn sink_that_fails(rt: HostRuntime) -> Result<(), Fail> {
-    let mut shelf = shelf_of_one(rt.alloc())?;
-    for (line, part) in [
-        ("check loop.toml", "mission 87"),
-        ("check loop.toml --need 4", "mission 87"),
-        ("size loop.toml", "mission 87"),
-        ("gen 7", "mission = "),
-        ("gen seven", "usage: sil"),
-    ] {
-        assert!(rt;
-            answers_over(rt.alloc(), line, &mut shelf, 10, Status::WriteFault, part)?,
-            "{line}"
-        );
-    }
-    Ok(())
-}
-
-/// A pick that fails, though the file is there: nothing is written. Where no file is asked for, none is picked.
-#[test]
-fn pick_that_fails(rt: HostRuntime) -> Result<(), Fail> {
-    let mut shelf = shelf_of_one(rt.alloc())?;
-    shelf.fail_pick();
-    for line in [
+/// Of a name that the shelf does not hold, and where a pick fails, nothing is written. A sink that fails after ten bytes has the
+/// first ten bytes of each text.
+const ROWS: [Row; 10] = [
+    (
+        "check other.toml --need 1",
+        false,
+        ROOM,
+        Status::ReadFault,
+        "",
+    ),
+    ("size other.toml", false, ROOM, Status::ReadFault, ""),
+    (
         "check loop.toml",
-        "check loop.toml --series",
+        false,
+        10,
+        Status::WriteFault,
+        "mission 87",
+    ),
+    (
+        "check loop.toml --need 4",
+        false,
+        10,
+        Status::WriteFault,
+        "mission 87",
+    ),
+    (
         "size loop.toml",
-    ] {
-        assert!(rt;
-            answers_over(rt.alloc(), line, &mut shelf, ROOM, Status::ReadFault, "")?,
-            "{line}"
-        );
+        false,
+        10,
+        Status::WriteFault,
+        "mission 87",
+    ),
+    ("gen 7", false, 10, Status::WriteFault, "mission = "),
+    ("gen seven", false, 10, Status::WriteFault, "usage: sil"),
+    ("check loop.toml", true, ROOM, Status::ReadFault, ""),
+    (
+        "check loop.toml --series",
+        true,
+        ROOM,
+        Status::ReadFault,
+        "",
+    ),
+    ("size loop.toml", true, ROOM, Status::ReadFault, ""),
+];
+
+#[test]
+fn names_picks_and_sinks(rt: HostRuntime) -> Result<(), Fail> {
+    for (line, pick_fails, fail_after, status, told) in ROWS {
+        let mut shelf = shelf_of(rt.alloc(), ONE_CHANNEL.as_bytes())?;
+        if pick_fails {
+            shelf.fail_pick();
+        }
+        let (found, text) = ran_over(rt.alloc(), line, &mut shelf, fail_after)?;
+        assert!(rt; found == status && text.as_str() == told, "{line}");
     }
+    // Where no file is asked for, none is picked.
+    let mut shelf = shelf_of(rt.alloc(), ONE_CHANNEL.as_bytes())?;
+    shelf.fail_pick();
     let (status, _) = ran_over(rt.alloc(), "gen 7", &mut shelf, ROOM)?;
     assert_eq!(rt; status, Status::Done);
     Ok(())
-}
-
-/// Whether a run ends with a read fault where the read of this number fails, and then writes nothing.
-fn read_fails(alloc: Global, planned: u32, line: &str) -> Result<bool, Fail> {
-    let mut shelf = shelf_of_one(alloc)?;
-    shelf.fail_read_at(planned);
-    let (status, text) = ran_over(alloc, line, &mut shelf, ROOM)?;
-    Ok(status == Status::ReadFault && text.is_empty())
 }
 
 /// A file takes one read, and its end another: whichever of them fails, nothing is written.
@@ -83,9 +77,12 @@ fn read_fails(alloc: Global, planned: u32, line: &str) -> Result<bool, Fail> {
 fn read_that_fails(rt: HostRuntime) -> Result<(), Fail> {
     for planned in 0..4u32 {
         for line in ["check loop.toml --series", "size loop.toml"] {
-            let fails = planned == 1 || planned == 2;
+            let mut shelf = shelf_of(rt.alloc(), ONE_CHANNEL.as_bytes())?;
+            shelf.fail_read_at(planned);
+            let (status, text) = ran_over(rt.alloc(), line, &mut shelf, ROOM)?;
+            let fails = status == Status::ReadFault && text.is_empty();
             assert!(rt;
-                read_fails(rt.alloc(), planned, line)? == fails,
+                fails == (planned == 1 || planned == 2),
                 "{line}: read {planned}"
             );
         }
@@ -102,15 +99,14 @@ fn is_cut(
     taken: usize,
     stalls: bool,
 ) -> Result<bool, Fail> {
-    let mut shelf = MemShelf::new(alloc);
-    shelf.put("loop.toml", file)?;
+    let mut shelf = shelf_of(alloc, file)?;
     let mut sink = MemSink::new(alloc, ROOM)?;
     if stalls {
         sink.stall_after(taken);
     } else {
         sink.fail_after(taken);
     }
-    let status = run_into(alloc, line, &mut shelf, &mut sink)?;
+    let status = run_into(alloc, line, &mut shelf, &mut sink, true)?;
     Ok(status == Status::WriteFault && whole.get(..taken) == Some(sink.bytes()))
 }
 

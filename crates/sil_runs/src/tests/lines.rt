@@ -1,7 +1,7 @@
 //! Whole command lines, with the status and the text that each has to give.
 
 use super::files::shelf_of_files;
-use super::{ROOM, answers_over, lines_of, ran_over};
+use super::{ROOM, lines_of, ran_over};
 use sil_io::MemShelf;
 use sil_top::Status;
 use std::alloc::Global;
@@ -91,53 +91,22 @@ fn is_number(status: Status, digit: &str) -> bool {
     digit.as_bytes() == [b'0' + status as u8].as_slice()
 }
 
+/// Each line ends as its row says. Where the words are not in the language the usage text is written, and a report is the same
+/// whatever is needed.
 #[test]
 fn command_lines(rt: HostRuntime) -> Result<(), Fail> {
     let mut shelf = shelf_of_files(rt.alloc())?;
     for row in LINES.lines() {
         assert!(rt; ends_so(rt.alloc(), &mut shelf, row)?, "{row}");
     }
-    Ok(())
-}
-
-/// What is written where the words are not in the language is the usage text.
-#[test]
-fn usage(rt: HostRuntime) -> Result<(), Fail> {
-    let mut shelf = shelf_of_files(rt.alloc())?;
-    assert!(rt;
-        answers_over(
-            rt.alloc(),
-            "check one two",
-            &mut shelf,
-            ROOM,
-            Status::Usage,
-            USAGE
-        )?
-    );
-    Ok(())
-}
-
-/// Whether these two lines write the same seven lines.
-fn writes_the_same(
-    alloc: Global,
-    shelf: &mut MemShelf,
-    line: &str,
-    other: &str,
-) -> Result<bool, Fail> {
-    let (_, report) = ran_over(alloc, line, shelf, ROOM)?;
-    let (_, text) = ran_over(alloc, other, shelf, ROOM)?;
-    Ok(report.as_str().lines().count() == 7 && text.as_str() == report.as_str())
-}
-
-/// A report is the same whatever is needed, and so is its exit status where nothing is.
-#[test]
-fn whole_reports(rt: HostRuntime) -> Result<(), Fail> {
-    let mut shelf = shelf_of_files(rt.alloc())?;
+    let (status, text) = ran_over(rt.alloc(), "check one two", &mut shelf, ROOM)?;
+    assert_eq!(rt; status, Status::Usage);
+    assert_eq!(rt; text.as_str(), USAGE);
+    let (_, report) = ran_over(rt.alloc(), "check three", &mut shelf, ROOM)?;
+    assert_eq!(rt; report.as_str().lines().count(), 7);
     for line in ["check three --need 3 --mode both", "check --need 4 three"] {
-        assert!(rt;
-            writes_the_same(rt.alloc(), &mut shelf, "check three", line)?,
-            "{line}"
-        );
+        let (_, text) = ran_over(rt.alloc(), line, &mut shelf, ROOM)?;
+        assert_eq!(rt; text.as_str(), report.as_str(), "{line}");
     }
     Ok(())
 }

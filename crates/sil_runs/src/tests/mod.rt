@@ -31,16 +31,19 @@ fn words_of(alloc: Global, line: &str) -> Result<Vec<String>, AllocError> {
     Ok(words)
 }
 
-/// The status of a run over this shelf with a series, into this sink.
+/// The status of a run over this shelf into this sink, perhaps with a series.
 fn run_into(
     alloc: Global,
     line: &str,
     shelf: &mut MemShelf,
     sink: &mut MemSink,
+    with_series: bool,
 ) -> Result<Status, AllocError> {
     let words = words_of(alloc, line)?;
     let mut watchers: Vec<Box<dyn Watcher>> = Vec::new(alloc);
-    watchers.push(Box::new(alloc, Series::new(alloc))?)?;
+    if with_series {
+        watchers.push(Box::new(alloc, Series::new(alloc))?)?;
+    }
     Ok(run(alloc, &words, shelf, sink, watchers))
 }
 
@@ -53,15 +56,21 @@ fn ran_over(
 ) -> Result<(Status, String), Fail> {
     let mut sink = MemSink::new(alloc, ROOM)?;
     sink.fail_after(fail_after);
-    let status = run_into(alloc, line, shelf, &mut sink)?;
+    let status = run_into(alloc, line, shelf, &mut sink, true)?;
     let text = std::str::from_utf8(sink.bytes()).map_err(|_| "no text")?;
     Ok((status, String::from_str(alloc, text)?))
 }
 
-/// The status and the text of a run over a shelf that holds one file, `loop.toml`.
-fn ran(alloc: Global, line: &str, file: &[u8]) -> Result<(Status, String), Fail> {
+/// A shelf that holds one file, `loop.toml`.
+fn shelf_of(alloc: Global, file: &[u8]) -> Result<MemShelf, AllocError> {
     let mut shelf = MemShelf::new(alloc);
     shelf.put("loop.toml", file)?;
+    Ok(shelf)
+}
+
+/// The status and the text of a run over a shelf that holds one file, `loop.toml`.
+fn ran(alloc: Global, line: &str, file: &[u8]) -> Result<(Status, String), Fail> {
+    let mut shelf = shelf_of(alloc, file)?;
     ran_over(alloc, line, &mut shelf, ROOM)
 }
 
@@ -74,19 +83,6 @@ fn answers(
     told: &str,
 ) -> Result<bool, Fail> {
     let (found, text) = ran(alloc, line, file)?;
-    Ok(found == status && text.as_str() == told)
-}
-
-/// The same over a shelf, into a sink that fails after so many bytes.
-fn answers_over(
-    alloc: Global,
-    line: &str,
-    shelf: &mut MemShelf,
-    fail_after: usize,
-    status: Status,
-    told: &str,
-) -> Result<bool, Fail> {
-    let (found, text) = ran_over(alloc, line, shelf, fail_after)?;
     Ok(found == status && text.as_str() == told)
 }
 

@@ -39,55 +39,50 @@ name = 'sif'|name = ""||text subsystem[0].name not a name
 ||test = { every = 0 }|out of range subsystem[0].test.every
 repair = 8|repair = 8761||out of range subsystem[0].repair"#;
 
+/// Whether this line of words refuses this file by this fault.
+fn is_refused(alloc: Global, words: &str, file: &[u8], fault: &str) -> Result<bool, Fail> {
+    let line = format!(in alloc; "refused: {fault}\n")?;
+    answers(alloc, words, file, Status::FileRefused, line.as_str())
+}
+
 /// Whether both verbs refuse the file of this row by its line.
-fn is_refused(alloc: Global, row: &str) -> Result<bool, Fail> {
+fn are_refused(alloc: Global, row: &str) -> Result<bool, Fail> {
     let (part, rest) = cut(row)?;
     let (by, rest) = cut(rest)?;
     let (more, fault) = cut(rest)?;
     let part = lines_of(alloc, part)?;
     let file = lines_of(alloc, changed(alloc, part.as_str(), by, more)?.as_str())?;
-    let line = format!(in alloc; "refused: {fault}\n")?;
+    let file = file.as_bytes();
     Ok(
-        is_refused_by(
-            alloc,
-            "check loop.toml --need 4",
-            file.as_bytes(),
-            line.as_str(),
-        )? && is_refused_by(alloc, "size loop.toml", file.as_bytes(), line.as_str())?,
+        is_refused(alloc, "check loop.toml --need 4", file, fault)?
+            && is_refused(alloc, "size loop.toml", file, fault)?,
     )
-}
-
-/// Whether this line of words refuses this file by this text.
-fn is_refused_by(alloc: Global, words: &str, file: &[u8], line: &str) -> Result<bool, Fail> {
-    answers(alloc, words, file, Status::FileRefused, line)
 }
 
 /// Both verbs print the same line of a refused file.
 #[test]
 fn refused_files(rt: HostRuntime) -> Result<(), Fail> {
     for row in REFUSED.lines() {
-        assert!(rt; is_refused(rt.alloc(), row)?, "{row}");
+        assert!(rt; are_refused(rt.alloc(), row)?, "{row}");
     }
     Ok(())
 }
 
-/// The keys that are missing where the file of one channel is cut off before each of its lines.
-const MISSING: &str =
-    "version|mission|subsystem|subsystem[0].name|subsystem[0].vote|subsystem[0].du|subsystem[0].repair";
-
-/// Whether a file is refused since this key is missing.
-fn is_missing(alloc: Global, file: &[u8], key: &str) -> Result<bool, Fail> {
-    let line = format!(in alloc; "refused: missing {key}\n")?;
-    is_refused_by(alloc, "check loop.toml", file, line.as_str())
-}
+/// The faults of the file of one channel where it is cut off before each of its lines.
+const MISSING: &str = "\
+missing version|missing mission|missing subsystem|missing subsystem[0].name|missing subsystem[0].vote\
+|missing subsystem[0].du|missing subsystem[0].repair";
 
 /// The file of one channel cut off after each of its lines but the last.
 #[test]
 fn truncated_files(rt: HostRuntime) -> Result<(), Fail> {
     let mut read = 0;
-    for (key, line) in MISSING.split('|').zip(ONE_CHANNEL.lines()) {
+    for (fault, line) in MISSING.split('|').zip(ONE_CHANNEL.lines()) {
         let front = ONE_CHANNEL.as_bytes().get(..read).ok_or("too long")?;
-        assert!(rt; is_missing(rt.alloc(), front, key)?, "{key}");
+        assert!(rt;
+            is_refused(rt.alloc(), "check loop.toml", front, fault)?,
+            "{fault}"
+        );
         read += line.len() + 1;
     }
     assert_eq!(rt; read, ONE_CHANNEL.len());
@@ -99,7 +94,6 @@ fn truncated_files(rt: HostRuntime) -> Result<(), Fail> {
 fn byte_of_no_text(rt: HostRuntime) -> Result<(), Fail> {
     let mut file: Vec<u8> = Vec::from_slice(rt.alloc(), ONE_CHANNEL.as_bytes())?;
     file.extend_from_slice(b"# \xff\n")?;
-    assert!(rt; is_refused_by(rt.alloc(), "check loop.toml", &file, "refused: not TOML\n")?);
     let mut name: Vec<u8> = Vec::from_slice(rt.alloc(), ONE_CHANNEL.as_bytes())?;
     for byte in name.as_mut_slice() {
         // the last letter of the name, and no other byte of the file
@@ -107,7 +101,9 @@ fn byte_of_no_text(rt: HostRuntime) -> Result<(), Fail> {
             *byte = 255;
         }
     }
-    assert!(rt; is_refused_by(rt.alloc(), "check loop.toml", &name, "refused: not TOML\n")?);
+    for file in [file.as_slice(), name.as_slice()] {
+        assert!(rt; is_refused(rt.alloc(), "check loop.toml", file, "not TOML")?);
+    }
     Ok(())
 }
 
@@ -126,7 +122,7 @@ fn longest_file(rt: HostRuntime) -> Result<(), Fail> {
     let told = "mission 8760\nphases 1\nstates 4\nbeats 1096\norder 28\nwork 122752\n";
     assert!(rt; answers(alloc, "size loop.toml", &file, Status::Done, told)?);
     let file = lengthened(alloc, MOST_FILE_BYTES + 1)?;
-    let told = "refused: file longer than 65536 bytes\n";
-    assert!(rt; is_refused_by(alloc, "size loop.toml", &file, told)?);
+    let fault = "file longer than 65536 bytes";
+    assert!(rt; is_refused(alloc, "size loop.toml", &file, fault)?);
     Ok(())
 }

@@ -1,9 +1,8 @@
 //! The lines of phases behind a report.
 
-use super::{ROOM, changed, ran, words_of};
-use sil_io::{MemShelf, MemSink};
-use sil_top::{Status, run};
-use std::alloc::{AllocError, Global};
+use super::{ROOM, changed, ran, run_into, shelf_of};
+use sil_io::MemSink;
+use sil_top::Status;
 use std::test::Fail;
 
 /// How the lines of three years begin.
@@ -22,22 +21,16 @@ fn are_phases(lines: &str) -> bool {
     as_told
 }
 
-/// Three years with a test a year.
-fn three_years(alloc: Global) -> Result<String, AllocError> {
-    changed(
-        alloc,
-        "mission = 8760",
-        "mission = 26280",
-        "test = { every = 8760 }\n",
-    )
-}
-
-/// A report of three phases, and behind it a line of each.
+/// The report of three years with a test a year, and behind it a line of each. With no watcher a series that is asked for has no
+/// lines.
 #[test]
 fn lines_of_phases(rt: HostRuntime) -> Result<(), Fail> {
-    let file = three_years(rt.alloc())?;
-    let (_, report) = ran(rt.alloc(), "check loop.toml", file.as_bytes())?;
-    let (status, text) = ran(rt.alloc(), "check loop.toml --series", file.as_bytes())?;
+    let alloc = rt.alloc();
+    let years = "mission = 26280";
+    let file = changed(alloc, "mission = 8760", years, "test = { every = 8760 }\n")?;
+    let file = file.as_bytes();
+    let (_, report) = ran(alloc, "check loop.toml", file)?;
+    let (status, text) = ran(alloc, "check loop.toml --series", file)?;
     assert_eq!(rt; status, Status::Done);
     assert_eq!(rt; report.as_str().lines().count(), 7);
     let lines = text
@@ -45,25 +38,15 @@ fn lines_of_phases(rt: HostRuntime) -> Result<(), Fail> {
         .strip_prefix(report.as_str())
         .ok_or("no report")?;
     assert!(rt; are_phases(lines), "{lines}");
-    Ok(())
-}
-
-/// With no watcher a series that is asked for has no lines.
-#[test]
-fn no_watcher(rt: HostRuntime) -> Result<(), Fail> {
-    let file = three_years(rt.alloc())?;
-    let (_, report) = ran(rt.alloc(), "check loop.toml", file.as_bytes())?;
-    let mut shelf = MemShelf::new(rt.alloc());
-    shelf.put("loop.toml", file.as_bytes())?;
-    let mut sink = MemSink::new(rt.alloc(), ROOM)?;
-    let words = words_of(rt.alloc(), "check loop.toml --series")?;
-    let _ = run(
-        rt.alloc(),
-        &words,
+    let mut shelf = shelf_of(alloc, file)?;
+    let mut sink = MemSink::new(alloc, ROOM)?;
+    let _ = run_into(
+        alloc,
+        "check loop.toml --series",
         &mut shelf,
         &mut sink,
-        Vec::new(rt.alloc()),
-    );
+        false,
+    )?;
     assert_eq!(rt; sink.bytes(), report.as_bytes());
     Ok(())
 }

@@ -1,9 +1,11 @@
-use Rattle.std.proofs.Common.{◌≡◌, length}
+use Rattle.std.proofs.Common.{◌≡◌, ◌+◌, ◌≤◌, length}
 use Rattle.product_chain.specs.Columns.{AreWeighted}
+use Rattle.place_chain.specs.Sweeps.{swept_to}
 use Rattle.place_chain.proofs.estimate.sweep_down.Given as goal
 
 abbrev pub invariant-loop-j : goal.invariant-loop-j
-invariant-loop-j l = record {
+invariant-loop-j g l = record {
   long : length l.masses ≡ length l.fn.masses;
   columns : AreWeighted (length l.masses) (length l.masses) l.starts l.entries;
+  counted : l.steps + swept_to l.starts l.j ≤ l.fn.steps + length l.entries + length l.v;
 }

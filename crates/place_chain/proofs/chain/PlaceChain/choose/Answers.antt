@@ -1,15 +1,19 @@
-use Rattle.std.proofs.Common.{◌≡◌, ℕ, List, length, sym, ap, ◌∙◌, arith}
+use Rattle.std.proofs.Common.{◌≡◌, ℕ, ◌+◌, ◌*◌, ◌≤◌, List, length, sym, ap, ◌∙◌, arith}
 use Rattle.std.specs.Prelude.{Bool, true, false}
+use Rattle.sil_model.specs.Budget.{lumped_events_of}
 use Rattle.sil_model.specs.Sizes.{states_of}
+use Rattle.sil_model.specs.declared.parts.Subsystem.{Subsystem}
+use Rattle.product_chain.specs.Kept.{events_number}
 use Rattle.product_chain.proofs.Chains.{written}
 use Rattle.place_chain.specs.Places.{ArePlaces, AreCompact}
 use Rattle.place_chain.specs.PlaceChain.{PlaceChainValue}
+use Rattle.place_chain.specs.Sweeps.{choice_products}
 use Rattle.place_chain.proofs.Between.{are_in_order, are_between}
 use Rattle.place_chain.proofs.Listed.{unmarked}
 use Rattle.place_chain.proofs.chain.PlaceChain.choose.Goals as goal
 
 pub invariant_of-self : goal.invariant_of-self
-invariant_of-self c =
+invariant_of-self g c =
     let s = c.self.inside in
     let chain = c.args.chain.now in
     let all = c.columns-columns.result.entries.now in
@@ -61,7 +65,7 @@ invariant_of-self c =
     apart f = cc
 
 pub returns-clause-held : goal.returns-clause-held
-returns-clause-held c =
+returns-clause-held g c =
     let s = c.self.inside in
     let chain = c.args.chain.now in
     let N : List Bool = c.mark_heavy.new.marks in
@@ -77,3 +81,14 @@ returns-clause-held c =
   where
     apart : true ≡ false → ⊥
     apart f = cc
+
+-- three sweeps over the columns of a chain
+three_sweeps : (us : List Subsystem) (entries size a s : ℕ) → entries ≤ states_of us * (events_number us + 1) → size ≡ states_of us
+    → s ≤ a + 3 * (entries + size) → s ≤ a + choice_products us
+unfolding lumped_events_of
+three_sweeps us entries size a s few e counted = omega (arith, few, e, counted)
+
+pub returns-clause-steps : goal.returns-clause-steps
+returns-clause-steps g c =
+    three_sweeps c.args.chain.now.of.subsystems (length c.columns-columns.result.entries.now) (length c.args.v.now) c.args.steps.now c.mark_heavy.new.steps
+    c.columns-columns.ensures.weights.number c.requires.v c.mark_heavy.ensures.steps

@@ -1,4 +1,0 @@
-use Rattle.beat_ladder.proofs.tests.a_channel_fails_by_the_exponential.Given as goal
-
-abbrev pub ghosts-pass : goal.ghosts-pass
-ghosts-pass g a = record { name = a.blank.name; parts = a.blank.parts }

@@ -1,6 +1,0 @@
-use Rattle.std.proofs.Common.{ℕ, ◌^◌, ◌<◌, ◌≤◌, sum}
-use Rattle.dense_power.specs.Rows.{row_of}
-use Rattle.dense_power.proofs.tests.are_rows_small.Given as goal
-
-abbrev pub invariant-loop-i : goal.invariant-loop-i
-invariant-loop-i l = (k : ℕ) → k < l.i → sum (row_of l.m k) ≤ 2 ^ 48

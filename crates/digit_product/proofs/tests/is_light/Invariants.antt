@@ -1,8 +1,0 @@
-use Rattle.std.proofs.Common.{◌≡◌, ◌^◌, ◌≤◌, sum, take}
-use Rattle.digit_product.proofs.tests.is_light.Given as goal
-
-abbrev pub invariant-loop-x : goal.invariant-loop-x
-invariant-loop-x l = record {
-  total : l.total ≡ sum (take l.x-index l.v);
-  most : l.total ≤ 2 ^ 63;
-}

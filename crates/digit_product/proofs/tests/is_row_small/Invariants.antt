@@ -1,6 +1,0 @@
-use Rattle.std.proofs.Common.{ℕ, ◌^◌, ◌<◌, ◌≤◌}
-use Rattle.dense_power.specs.Matrix.{entry_of}
-use Rattle.digit_product.proofs.tests.is_row_small.Given as goal
-
-abbrev pub invariant-loop-j : goal.invariant-loop-j
-invariant-loop-j l = (j : ℕ) → j < l.j → entry_of l.m l.i j ≤ 2 ^ 48

@@ -1,6 +1,0 @@
-use Rattle.std.proofs.Common.{ℕ, ◌^◌, ◌<◌, ◌≤◌}
-use Rattle.dense_power.specs.Matrix.{entry_of}
-use Rattle.digit_product.proofs.tests.is_small.Given as goal
-
-abbrev pub invariant-loop-i : goal.invariant-loop-i
-invariant-loop-i l = (i j : ℕ) → i < l.i → j < l.m.size → entry_of l.m i j ≤ 2 ^ 48

@@ -1,8 +1,0 @@
-use Rattle.std.proofs.Common.{◌≡◌}
-use Rattle.digit_product.proofs.tests.small_matrix.Given as goal
-
-abbrev pub invariant-loop-i : goal.invariant-loop-i
-invariant-loop-i l = l.m.size ≡ l.size
-
-abbrev pub invariant-loop-j : goal.invariant-loop-j
-invariant-loop-j l = l.m.size ≡ l.size

@@ -1,4 +1,0 @@
-use Rattle.phase_run.proofs.tests.one_year_of_one_channel.Given as goal
-
-abbrev pub ghosts-one_year : goal.ghosts-one_year
-ghosts-one_year g a = record { name = a.blank.name; parts = a.blank.parts }

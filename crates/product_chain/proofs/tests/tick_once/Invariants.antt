@@ -1,9 +1,0 @@
-use Rattle.std.proofs.Common.{◌≡◌, ◌+◌, ◌^◌, length}
-use Rattle.std.specs.Prelude.{sum}
-use Rattle.product_chain.proofs.tests.tick_once.Given as goal
-
-abbrev pub invariant-loop-i : goal.invariant-loop-i
-invariant-loop-i g l = record {
-  size : length l.vector.items ≡ length l.initial.vector.items;
-  mass : sum l.vector.items + l.left ≡ 2 ^ 48;
-}

@@ -1,4 +1,0 @@
-use Rattle.test_matrix.proofs.tests.eight_channels_fail_each_by_itself.Given as goal
-
-abbrev pub ghosts-apply_after : goal.ghosts-apply_after
-ghosts-apply_after g a = record { name = a.blank.name; parts = a.blank.parts }

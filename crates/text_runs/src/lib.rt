@@ -1,0 +1,5 @@
+//! Texts that are read and written, line by line. This crate has tests alone.
+#![tactic(auto)]
+
+#[cfg(test)]
+mod tests;

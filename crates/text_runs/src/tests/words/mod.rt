@@ -1,0 +1,89 @@
+//! Worked words, and what they ask for.
+
+mod lines;
+
+use lines::LINES;
+use sil_words::{Ask, Mode, Verb, WordFault, read_words};
+use std::alloc::{AllocError, Global};
+use std::test::Fail;
+
+/// The words of a line, which `|` separates.
+fn words_of(alloc: Global, line: &str) -> Result<Vec<String>, AllocError> {
+    let mut words = Vec::new(alloc);
+    for word in line.split('|') {
+        words.push(String::from_str(alloc, word)?)?;
+    }
+    Ok(words)
+}
+
+/// What they ask for.
+fn read(alloc: Global, line: &str) -> Result<Ask, WordFault> {
+    match words_of(alloc, line) {
+        Ok(words) => read_words(alloc, words.as_slice()),
+        Err(e) => Err(WordFault::Memory(e)),
+    }
+}
+
+fn verb_text(verb: Verb) -> &'static str {
+    match verb {
+        Verb::Check => "check",
+        Verb::Size => "size",
+        Verb::Gen => "gen",
+        Verb::Bench => "bench",
+    }
+}
+
+fn mode_text(mode: Mode) -> &'static str {
+    match mode {
+        Mode::Low => "low",
+        Mode::High => "high",
+        Mode::Both => "both",
+    }
+}
+
+/// An answer as the table of lines writes it.
+fn answer_text(alloc: Global, answer: Result<Ask, WordFault>) -> Result<String, AllocError> {
+    match answer {
+        Ok(ask) => {
+            let verb = verb_text(ask.verb);
+            let number = ask.number;
+            let need = match ask.need {
+                Some(need) => format!(in alloc; "{need}")?,
+                None => String::from_str(alloc, "-")?,
+            };
+            let mode = mode_text(ask.mode);
+            let watch = ask.watch;
+            let name = ask.name.as_str();
+            format!(in alloc; "{verb} {number} {need} {mode} {watch} [{name}]")
+        }
+        Err(WordFault::Usage) => String::from_str(alloc, "usage"),
+        Err(WordFault::Memory(e)) => Err(e),
+    }
+}
+
+#[test]
+fn lines_ask_as_the_grammar_says(rt: HostRuntime) -> Result<(), Fail> {
+    for row in LINES.lines() {
+        let (line, expected) = row.split_once(" => ").unwrap_or((row, ""));
+        let answer = answer_text(rt.alloc(), read(rt.alloc(), line))?;
+        assert_eq!(rt; answer.as_str(), expected, "{line}");
+    }
+    Ok(())
+}
+
+#[test]
+fn no_words_are_usage(rt: HostRuntime) {
+    assert!(rt; matches!(read_words(rt.alloc(), &[]), Err(WordFault::Usage)));
+}
+
+#[test]
+fn each_field_is_answered(rt: HostRuntime) -> Result<(), Fail> {
+    let ask = read(rt.alloc(), "check|--need=2|--mode|both|F1")?;
+    assert_eq!(rt; ask.verb, Verb::Check);
+    assert_eq!(rt; ask.name.as_str(), "F1");
+    assert_eq!(rt; ask.number, 0);
+    assert_eq!(rt; ask.need, Some(2));
+    assert_eq!(rt; ask.mode, Mode::Both);
+    assert_eq!(rt; ask.watch, 0);
+    Ok(())
+}

@@ -1,0 +1,8 @@
+use Rattle.std.proofs.Common.{◌≡◌, ◌^◌, ◌≤◌, sum, take}
+use Rattle.tick_runs.proofs.tests.entries.is_mass.Given as goal
+
+abbrev pub invariant-loop-x : goal.invariant-loop-x
+invariant-loop-x l = record {
+  total : l.total ≡ sum (take l.x-index l.v);
+  most : l.total ≤ 2 ^ 48;
+}

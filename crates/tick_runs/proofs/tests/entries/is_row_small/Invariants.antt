@@ -1,0 +1,6 @@
+use Rattle.std.proofs.Common.{ℕ, ◌<◌, ◌≤◌}
+use Rattle.dense_power.specs.Matrix.{entry_of}
+use Rattle.tick_runs.proofs.tests.entries.is_row_small.Given as goal
+
+abbrev pub invariant-loop-j : goal.invariant-loop-j
+invariant-loop-j l = (j : ℕ) → j < l.j → entry_of l.m l.i j ≤ l.most
