@@ -1,6 +1,6 @@
 //! Intervals that hold a number.
 
-ghost use Rattle.std.specs.Prelude.{◌≡◌, ◌+◌, ◌-◌, ◌*◌, ◌/◌, ◌^◌, ◌≤◌};
+ghost use Rattle.std.specs.Prelude.{◌≡◌, ◌+◌, ◌-◌, ◌*◌, ◌/◌, ◌^◌, ◌<◌, ◌≤◌};
 ghost use Rattle.sil_model.specs.Calendar.{ceiling};
 
 use crate::ONE;
@@ -29,6 +29,33 @@ impl Interval {
         Interval {
             lo: part_lo,
             hi: ONE - complement_lo,
+        }
+    }
+
+    /// The interval of a sum of two numbers, one in each interval.
+    // The operator of Rust could not ask for room.
+    #[allow(clippy::should_implement_trait)]
+    pub fn add(self, other: Interval) -> Interval
+        requires room { self.hi + other.hi < 2 ^ 128 }
+        ensures lo { result.lo ≡ self.lo + other.lo }
+        ensures hi { result.hi ≡ self.hi + other.hi }
+    {
+        Interval {
+            lo: self.lo + other.lo,
+            hi: self.hi + other.hi,
+        }
+    }
+
+    /// The interval times `n / d`, rounded outward: the lower end down and the upper end up.
+    pub fn scale(self, n: u32, d: u32) -> Interval
+        requires some { 0 < d }
+        requires at_most_one { self.hi ≤ 2 ^ 48 }
+        ensures lo { result.lo ≡ self.lo * n / d }
+        ensures hi { result.hi ≡ ceiling (self.hi * n) d }
+    {
+        Interval {
+            lo: self.lo * u128::from(n) / u128::from(d),
+            hi: (self.hi * u128::from(n)).div_ceil(u128::from(d)),
         }
     }
 

@@ -5,7 +5,6 @@ use Rattle.sil_model.specs.Calendar.{phases_of, tests_at, beats_of, upto}
 use Rattle.sil_model.specs.declared.parts.Subsystem.{Subsystem}
 use Rattle.sil_model.specs.declared.parts.Group.{Group}
 use Rattle.sil_model.specs.declared.answers.LimitFault.{LimitFault}
-use Rattle.sil_model.specs.declared.limits.TheConstants.{MOST_TESTS, MOST_STATES, MOST_BEATS, MOST_WORK, MOST_FILE_BYTES}
 use Rattle.sil_model.specs.declared.answers.LimitFault.TheVariants.{TooManyTests, TooManyStates, TooManyBeats, TooMuchWork}
 
 -- in how many ways n equal channels share out over the four states: C(n + 3, 3)
@@ -32,22 +31,23 @@ work_of l order = all_beats_of l * order * states_of l.subsystems
 unfoldable pub channel_tests_of : LoopValue → ℕ
 channel_tests_of l = sum_by (λ t. length (tests_at l t)) (upto 0 l.mission)
 
--- the limits, as the code has them
+-- the limits; `limits_are_those_of_the_model` says that the constants of the code are these numbers
 abbrev pub most_tests : ℕ
-most_tests = MOST_TESTS
+most_tests = 4_096
 
 abbrev pub most_states : ℕ
-most_states = MOST_STATES
+most_states = 4_096
 
 abbrev pub most_beats : ℕ
-most_beats = MOST_BEATS
+most_beats = 1_000_000
 
+-- 2 ^ 34
 abbrev pub most_work : ℕ
-most_work = MOST_WORK
+most_work = 17_179_869_184
 
 -- the bytes of a loop file
 abbrev pub most_file_bytes : ℕ
-most_file_bytes = MOST_FILE_BYTES
+most_file_bytes = 65_536
 
 -- the first limit that is exceeded, in this order, with the count that exceeds it
 unfoldable pub first_limit_of : LoopValue → ℕ → Option LimitFault

@@ -14,7 +14,9 @@ mod whole;
 
 pub use answers::{Band, Decimal18, LimitFault, Sizes, Value};
 pub use counter::Steps;
-pub use limits::{MOST_BEATS, MOST_FILE_BYTES, MOST_STATES, MOST_TESTS, MOST_WORK};
+pub use limits::{
+    MOST_BEATS, MOST_FILE_BYTES, MOST_STATES, MOST_TESTS, MOST_WORK, limits_are_those_of_the_model,
+};
 pub use parts::{Chan, ChannelFigures, Group, InRepair, Subsystem, TestPlan, Vote};
 pub use texts::Text;
 pub use whole::Loop;

@@ -1,4 +1,7 @@
-//! The limits of what is read and computed. Contracts, texts and code speak of these alone.
+//! The limits of what is read and computed. Code and texts have the numbers from here, contracts from the definitions.
+
+ghost use Rattle.std.specs.Prelude.{◌≡◌};
+ghost use Rattle.sil_model.specs.Sizes.{most_beats, most_file_bytes, most_states, most_tests, most_work};
 
 /// The most bytes that a loop file may have.
 pub const MOST_FILE_BYTES: usize = 65_536;
@@ -14,3 +17,12 @@ pub const MOST_BEATS: u64 = 1_000_000;
 
 /// The most that a loop may have of beats times order times states.
 pub const MOST_WORK: u64 = 17_179_869_184;
+
+/// The limits are those of the definitions. A call without a body: its clauses say so of each.
+pub fn limits_are_those_of_the_model()
+    ensures file_bytes { MOST_FILE_BYTES ≡ most_file_bytes }
+    ensures tests { MOST_TESTS ≡ most_tests }
+    ensures states { MOST_STATES ≡ most_states }
+    ensures beats { MOST_BEATS ≡ most_beats }
+    ensures work { MOST_WORK ≡ most_work }
+{}

@@ -21,8 +21,8 @@ pub fn put_decimal18(v: u128) -> [u8; 20]
     text
 }
 
-/// One text stands for one number: a whole number or a figure is read back from what it is written as, whatever comes
-/// behind it.
+/// One text stands for one number: a whole number is read back from what it is written as where no further digit comes behind
+/// it, and a figure whatever comes behind it.
 pub fn texts_fix_numbers()
     ensures { TextsFixNumbers }
 {}

@@ -79,3 +79,39 @@ fn decimals_round_outward(rt: HostRuntime) {
         assert_eq!(rt; (decimal.lo, decimal.hi), (lo, hi), "{part}, {complement}");
     }
 }
+
+#[test]
+fn intervals_add_exactly_and_scale_outward(rt: HostRuntime) {
+    let sums = [
+        ((0, 0), (0, 0), (0, 0)),
+        (
+            (ONE / 4, ONE / 2),
+            (ONE / 8, ONE / 4),
+            (105_553_116_266_496, 211_106_232_532_992),
+        ),
+        ((0, u128::MAX - 1), (1, 1), (1, u128::MAX)),
+    ];
+    for (a, b, sum) in sums {
+        assert!(rt; a.0 <= a.1 && b.0 <= b.1 && a.1 <= u128::MAX - b.1);
+        let one = Interval { lo: a.0, hi: a.1 };
+        let added = one.add(Interval { lo: b.0, hi: b.1 });
+        assert_eq!(rt; (added.lo, added.hi), sum, "{a:?} and {b:?}");
+    }
+    let scalings = [
+        (1, 2, 1, 3, 0, 1),
+        (10, 11, 2, 3, 6, 8),
+        (6, 9, 2, 3, 4, 6),
+        (3, 5, 0, 7, 0, 0),
+        (ONE, ONE, 1, u32::MAX, 65_536, 65_537),
+        (0, ONE, u32::MAX, 1, 0, 1_208_925_819_333_154_197_995_520),
+    ];
+    for (lo, hi, n, d, down, up) in scalings {
+        assert!(rt; lo <= hi && hi <= ONE && 0 < d);
+        let scaled = Interval { lo, hi }.scale(n, d);
+        assert_eq!(rt;
+            (scaled.lo, scaled.hi),
+            (down, up),
+            "{lo} to {hi}, {n} / {d}"
+        );
+    }
+}
