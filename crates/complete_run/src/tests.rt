@@ -24,7 +24,7 @@ fn file_of_one_channel_is_sound(rt: HostRuntime) -> Result<(), Fail> {
 /// The report of a drawn loop stands in the sink.
 #[test]
 fn drawn_loop_is_reported(rt: HostRuntime) -> Result<(), Fail> {
-    let (status, sink) = check_drawn(rt.alloc(), 7)?.ok_or("too long")?;
+    let (status, sink) = check_drawn(rt.alloc(), 7)?;
     assert_eq!(rt; status, Status::Done);
     assert!(rt; sink.bytes().starts_with(b"mission 43800\nphases 5\n"));
     Ok(())
