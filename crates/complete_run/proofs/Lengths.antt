@@ -1,28 +1,16 @@
 -- A report has at most 1,024 bytes.
-use Rattle.std.proofs.Common.{◌≡◌, ℕ, ◌+◌, ◌≤◌, ◌/◌, ◌^◌, Bool, List, [], ◌∷◌, ◌++◌, length, zero, suc, arith}
-use Rattle.std.specs.Prelude.{codes, decimal, true, false, ◌-◌, ◌%◌, ◌==◌, if◌then◌else◌}
-use Rattle.std.specs.Fmt.{digits_onto, digits, digit_glyph}
+use Rattle.std.proofs.Common.{◌≡◌, ℕ, ◌+◌, ◌≤◌, ◌/◌, ◌^◌, List, ◌∷◌, ◌++◌, length, arith}
+use Rattle.std.specs.Prelude.{codes, decimal, ◌-◌}
 use Rattle.std.proofs.lemmas.List.{length-append}
 use Rattle.std.proofs.lemmas.List.FromFn.{length-map-range_with_len}
 use Rattle.sil_model.specs.declared.answers.Band.{Band}
 use Rattle.sil_model.specs.declared.answers.Band.TheVariants.{Beyond4, Sil4, Sil3, Sil2, Sil1, NoSil, Undecided}
 use Rattle.sil_text.specs.Figure.{decimal18, digits_behind, digit_at}
+use Rattle.loop_print.proofs.Lengths.{length-decimal, two}
 use Rattle.sil_report.specs.Texts.{count_line, counts_text}
 use Rattle.sil_report.specs.Intervals.{band_text_of, interval_line}
 use Rattle.sil_report.specs.FixedBy.{Interval, Counts}
 use Rattle.sil_report.specs.Reports.{report_lines}
-
--- so many digits at most
-length-digits_onto : (k base : ℕ) (upper : Bool) (n : ℕ) (acc : List ℕ) → length (digits_onto k base upper n acc) ≤ k + length acc
-length-digits_onto zero base upper n acc = omega arith
-length-digits_onto (suc k) base upper n acc = elim (n / base == 0) as (λ b. length (if b then digit_glyph upper (n % base) ∷ acc else digits_onto k base upper (n / base) (digit_glyph upper (n % base) ∷ acc)) ≤ suc k + length acc) [
-  | true ↦ omega arith
-  | false ↦ let more = length-digits_onto k base upper (n / base) (digit_glyph upper (n % base) ∷ acc) in omega (arith, more)
-]
-
-length-decimal : (n : ℕ) → length (decimal n) ≤ 64
-unfolding digits
-length-decimal n = let most = length-digits_onto 64 10 false n [] in omega (arith, most)
 
 length-decimal18 : (v : ℕ) → length (decimal18 v) ≤ 83
 unfolding decimal18
@@ -39,9 +27,6 @@ length-band Sil2 = omega arith
 length-band Sil1 = omega arith
 length-band NoSil = omega arith
 length-band Undecided = omega arith
-
-two : (s t : List ℕ) (a b : ℕ) → length s ≤ a → length t ≤ b → length (s ++ t) ≤ a + b
-two s t a b some more = let all = length-append s t in omega (arith, all, some, more)
 
 same : (s : List ℕ) → length s ≤ length s
 same s = omega arith

@@ -1,10 +1,8 @@
 -- What a run of `check` has to come to.
-use Rattle.std.specs.Prelude.{◌≡◌, ◌⊎◌, ℕ, ◌≤◌, ◌<◌, List, [], length, Some, None}
+use Rattle.std.specs.Prelude.{◌≡◌, ◌⊎◌, ℕ, ◌≤◌, List, [], length, None}
 use Rattle.sil_model.specs.LoopValue.{LoopValue}
 use Rattle.sil_model.specs.Sizes.{first_limit_of, most_file_bytes}
 use Rattle.loop_file.specs.LoopFile.{IsLoopOf}
-use Rattle.loop_file.specs.Tree.{tree_of}
-use Rattle.loop_print.specs.Canonical.{canonical_of}
 use Rattle.sil_top.specs.Report.{IsTrueReport}
 use Rattle.sil_top.specs.declared.Status.{Status}
 use Rattle.sil_top.specs.declared.Status.TheVariants.{Done, Memory}
@@ -18,13 +16,6 @@ pub record AreSound (bytes : List ℕ) (l : LoopValue) : Type 0 where
 -- the bytes are sound for no loop
 abbrev pub AreUnsound : List ℕ → Type 0
 AreUnsound bytes = (l : LoopValue) → ¬ AreSound bytes l
-
--- a canonical file of this loop is longer than a loop file may be
-pub record HasLongFile (l : LoopValue) : Type 0 where
-  pub bytes : List ℕ
-  pub canonical : tree_of bytes ≡ Some (canonical_of l)
-  pub is_loop : IsLoopOf bytes l
-  pub long : most_file_bytes < length bytes
 
 -- the true report of the loop was written, and nothing else; or memory was wanting, and nothing was written
 abbrev pub IsWhole : LoopValue → Status → List ℕ → Type 0

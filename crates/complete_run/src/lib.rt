@@ -2,15 +2,15 @@
 //!
 //! The clause `complete` of [`run`] has premises: that the words are in the language, that the file is told, without fault and
 //! within the limits, and that neither count of faults rises. Here the shelf, the sink and the words are made, and each of those
-//! premises is proved: what remains is said of the bytes of the file alone ([`check_file`]), read off them ([`check_sound`]), that
-//! a drawn loop has no longer file than is allowed ([`check_drawn`]), or nothing at all ([`check_one_channel`]).
+//! premises is proved: what remains is said of the bytes of the file alone ([`check_file`]), read off them ([`check_sound`]), or
+//! nothing at all ([`check_drawn`], [`check_one_channel`]).
 #![tactic(auto)]
 
 ghost use Rattle.std.specs.Prelude.{◌≡◌, codes, List, [], ◌∷◌, map, string_bytes, IfOk, IfNone, IfSome};
 ghost use Rattle.sil_model.specs.LoopValue.{LoopValue};
 ghost use Rattle.loop_gen.specs.Drawn.{drawn_of};
 ghost use Rattle.complete_run.specs.OneChannel.{one_channel};
-ghost use Rattle.complete_run.specs.Whole.{AreSound, AreUnsound, HasLongFile, IsWhole};
+ghost use Rattle.complete_run.specs.Whole.{AreSound, AreUnsound, IsWhole};
 
 use file_fault::FileFault;
 use loop_file::read_loop;
@@ -84,17 +84,13 @@ pub fn check_sound(alloc: Global, file: &[u8]) -> Result<Option<(Status, MemSink
     }
 }
 
-/// The same of the loop file that is printed of the loop of a number, and `None` where that is longer than a loop file may be.
-pub fn check_drawn(alloc: Global, number: u64) -> Result<Option<(Status, MemSink)>, AllocError>
-    ensures whole { IfOk result (λ found. IfSome found (λ ended. IsWhole (drawn_of number) ended.0 ended.1.written)) }
-    ensures none { IfOk result (λ found. IfNone found (HasLongFile (drawn_of number))) }
+/// The same of the loop file that is printed of the loop of a number.
+pub fn check_drawn(alloc: Global, number: u64) -> Result<(Status, MemSink), AllocError>
+    ensures { IfOk result (λ ended. IsWhole (drawn_of number) ended.0 ended.1.written) }
 {
     let l = make_loop(alloc, number)?;
     let file = print_loop(alloc, &l)?;
-    if file.len() > MOST_FILE_BYTES {
-        return Ok(None);
-    }
-    Ok(Some(check_file(alloc, &file)?))
+    check_file(alloc, &file)
 }
 
 /// The same of the file of one channel without tests, for a year. The checker reads its bytes, so no premise is left open.

@@ -1,3 +1,5 @@
 pub mod Puts
 pub mod Printed
 pub mod RoundTrip
+pub mod Bytes
+pub mod Lengths

@@ -1,3 +1,4 @@
 pub mod Canonical
+pub mod CanonicalText
 pub mod Put
 pub mod RoundTrip

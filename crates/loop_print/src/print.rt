@@ -1,11 +1,13 @@
 //! A loop, printed as a loop file.
 
-ghost use Rattle.std.specs.Prelude.{◌≡◌, pos, map, Some, OnOk, IfOk};
+ghost use Rattle.std.specs.Prelude.{◌≡◌, ◌≤◌, pos, map, length, Some, OnOk, IfOk};
 ghost use Rattle.toml.specs.View.{view, table_view};
 ghost use Rattle.sil_model.specs.LoopValue.{IsValid};
+ghost use Rattle.sil_model.specs.Sizes.{most_file_bytes};
 ghost use Rattle.loop_file.specs.Tree.{tree_of};
 ghost use Rattle.loop_file.specs.LoopFile.{IsLoopOf};
 ghost use Rattle.loop_print.specs.Canonical.{canonical_of, subsystem_table, test_table, whole_number, rate_text, thousandths_text, millionths_text, vote_text, choice_bytes};
+ghost use Rattle.loop_print.specs.CanonicalText.{canonical_text};
 ghost use Rattle.loop_print.specs.Put.{put, with_figures};
 ghost use Rattle.loop_print.specs.RoundTrip.{RoundTrip};
 
@@ -14,9 +16,11 @@ use std::alloc::{AllocError, Global};
 use toml::ser::Error;
 use toml::{Table, Value};
 
-/// Prints the canonical loop file of a loop, which has every key and no types. Reading it gives the loop back. The only
-/// refusal is want of memory.
+/// Prints the canonical loop file of a loop, which has every key and no types, and no more bytes than a loop file may have.
+/// Reading it gives the loop back. The only refusal is want of memory.
 pub fn print_loop(alloc: Global, l: &Loop) -> Result<Vec<u8>, AllocError>
+    ensures bytes { IfOk result (λ text. text.items ≡ canonical_text l.now) }
+    ensures short { IfOk result (λ text. length text.items ≤ most_file_bytes) }
     ensures canonical { IfOk result (λ text. tree_of text.items ≡ Some (canonical_of l.now)) }
     ensures reads_back { IfOk result (λ text. IsLoopOf text.items l.now) }
 {

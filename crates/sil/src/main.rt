@@ -2,8 +2,7 @@
 #![tactic(auto)]
 
 use sil_io::{FileShelf, OutSink};
-use sil_top::{Status, run};
-use sil_watch::{Series, Watcher};
+use sil_top::{Status, run_program};
 use std::io::{self, ErrorKind};
 use std::process::ExitCode;
 
@@ -20,16 +19,9 @@ fn main(rt: HostRuntime) -> ExitCode {
             return exit_code(Status::Memory);
         }
     }
-    let Ok(series) = Box::new(rt.alloc(), Series::new(rt.alloc())) else {
-        return exit_code(Status::Memory);
-    };
-    let mut watchers: Vec<Box<dyn Watcher>> = Vec::new(rt.alloc());
-    if watchers.push(series).is_err() {
-        return exit_code(Status::Memory);
-    }
     let mut shelf = FileShelf::new(&rt);
     let mut sink = OutSink::new(io::writer(&rt));
-    exit_code(run(rt.alloc(), &words, &mut shelf, &mut sink, watchers))
+    exit_code(run_program(rt.alloc(), &words, &mut shelf, &mut sink))
 }
 
 /// The exit status of the program is the number of its status.

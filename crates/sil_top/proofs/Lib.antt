@@ -1,5 +1,6 @@
 pub mod Bands
 pub mod Complete
+pub mod Programs
 pub mod Refused
 pub mod Reports
 pub mod SeriesTells

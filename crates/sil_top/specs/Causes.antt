@@ -25,7 +25,7 @@ module _ (tells : Bool) (file : List ℕ → Option (List ℕ)) (handed : Handed
   IsFileFault name before now Read = IsHandedInPart tells file handed name × CountsFault before now
   IsFileFault name before now TooLong = IsTooLong tells file handed name (refused_by too_long_line)
   IsFileFault name before now (Refused line) = IsFaulty tells file handed name (refused_by line.items)
-  IsFileFault name before now (Memory e) = IsHandedInPart tells file handed name
+  IsFileFault name before now (Memory e) = IsHandedInPart tells file handed name × (now ≡ before)
 
 -- why there is no answer to the words, where so much was handed out before
 module _ (watchers : List WatcherValue) (tells : Bool) (file : List ℕ → Option (List ℕ)) (handed : Handed) where
@@ -34,4 +34,4 @@ module _ (watchers : List WatcherValue) (tells : Bool) (file : List ℕ → Opti
   HasCause words was before now Read = IsStopped tells file handed words × CountsFault before now
   HasCause words was before now TooLong = CallsFor watchers tells file handed words (refused_by too_long_line)
   HasCause words was before now (Refused line) = CallsFor watchers tells file handed words (refused_by line.items)
-  HasCause words was before now (Memory e) = (handed ≡ was) ⊎ IsStopped tells file handed words
+  HasCause words was before now (Memory e) = ((handed ≡ was) ⊎ IsStopped tells file handed words) × (now ≡ before)

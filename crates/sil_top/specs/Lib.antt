@@ -1,4 +1,5 @@
 pub mod Causes
 pub mod Complete
+pub mod Program
 pub mod Report
 pub mod Run

@@ -8,6 +8,7 @@ use Rattle.file_fault.specs.declared.FileFault.{FileFault}
 use Rattle.loop_file.specs.Tree.{tree_of}
 use Rattle.loop_file.specs.LoopFile.{IsLoopOf, HasFault}
 use Rattle.loop_print.specs.Canonical.{canonical_of}
+use Rattle.loop_print.specs.CanonicalText.{canonical_text}
 use Rattle.loop_gen.specs.Drawn.{drawn_of}
 use Rattle.loop_value.specs.Sizes.{sizes_of}
 use Rattle.sil_bands.specs.Meets.{meets_of}
@@ -55,9 +56,11 @@ pub record IsSized (l : LoopValue) (o : Outcome) : Type 0 where
   pub within : first_limit_of l l.order ≡ None
   pub printed : o.text ≡ size_text_of l (sizes_of l l.order)
 
--- the canonical loop file of the loop, which reads back as this loop
+-- the canonical loop file of the loop, byte by byte: it is no longer than a loop file may be, and reads back as this loop
 pub record IsPrinted (l : LoopValue) (o : Outcome) : Type 0 where
   pub status : o.status ≡ Done
+  pub bytes : o.text ≡ canonical_text l
+  pub short : length o.text ≤ most_file_bytes
   pub canonical : tree_of o.text ≡ Some (canonical_of l)
   pub reads_back : IsLoopOf o.text l
 
@@ -142,6 +145,11 @@ module _ (before : List WatcherValue) (tells : Bool) (file : List ℕ → Option
 
   abbrev pub CallsFor : List (List ℕ) → Outcome → Type 0
   CallsFor words o = IsUsage words o ⊎ IsAnswer words o
+
+-- what is called for under this status was written: the sink took the whole text, and holds it if it tells what it holds
+abbrev pub IsWritten : (Outcome → Type 0) → Bool → List ℕ → List ℕ → List ℕ → List ℕ → Status → Type 0
+IsWritten calls tells taken taken_now written written_now status =
+    (text : List ℕ) × calls (record { status = status; text = text }) × (taken_now ≡ taken ++ text) × (IsTrue tells → written_now ≡ written ++ text)
 
 -- the words ask for a file, and the run ended with no more of it handed out than a loop file has
 pub record IsStopped (tells : Bool) (file : List ℕ → Option (List ℕ)) (handed : Handed) (words : List (List ℕ)) : Type 0 where

@@ -4,6 +4,7 @@
 mod answer;
 mod figures;
 mod load;
+mod program;
 mod verbs;
 
 ghost use Rattle.std.specs.Prelude.{◌≡◌, ℕ, ◌≤◌, ◌++◌, ◌∷◌, List, [], ◌⊎◌, true, length, map, string_bytes, IsTrue};
@@ -12,10 +13,11 @@ ghost use Rattle.sil_io.specs.Bytes.{AppendsPart};
 ghost use Rattle.sil_words.specs.Language.{Asks, IsInLanguage};
 ghost use Rattle.sil_words.specs.declared.ask.Ask.{Ask};
 ghost use Rattle.sil_top.specs.Complete.{HandsSound, IsHeld, IsMissing, IsOffered, IsOfferedOnce, IsQuiet, IsRefused, IsSound};
-ghost use Rattle.sil_top.specs.Run.{CallsFor, IsFileAsked, IsStopped};
+ghost use Rattle.sil_top.specs.Run.{CallsFor, IsFileAsked, IsStopped, IsWritten};
 
 use crate::answer::Fault;
 pub use crate::figures::{reports_fix_figures, series_tells};
+pub use crate::program::run_program;
 use crate::verbs::answer_to;
 use sil_io::{Shelf, Sink, write_whole};
 use sil_report::{too_long_text, usage_text};
@@ -59,23 +61,19 @@ pub fn run<S: Shelf, K: Sink>(
     // series from the printed one on, and the exact ones, lie between the printed ends, which are no further apart than the
     // error budget allows, and the bands are those of the ends, and behind the report the lines of the watchers that are asked
     // for, each fed one true record of every phase; by `size` the sizes of the loop; by `gen` its loop file.
-    ensures headline { result ≡ Status.Done → (text : List ℕ)
-        × CallsFor (map (λ w. watcher_value w) watchers.items) S.tells (S.file shelf.old) (S.handed shelf.new) (map string_bytes words.now) (record { status = Status.Done; text = text })
-        × (K.taken sink.new ≡ K.taken sink.old ++ text)
-        × (IsTrue K.tells → K.written sink.new ≡ K.written sink.old ++ text) }
+    ensures headline { result ≡ Status.Done → IsWritten
+        (CallsFor (map (λ w. watcher_value w) watchers.items) S.tells (S.file shelf.old) (S.handed shelf.new) (map string_bytes words.now))
+        K.tells (K.taken sink.old) (K.taken sink.new) (K.written sink.old) (K.written sink.new) Status.Done }
     // The same of a report whose printed bands do not show the level that is needed.
-    ensures not_shown { result ≡ Status.NotShown → (text : List ℕ)
-        × CallsFor (map (λ w. watcher_value w) watchers.items) S.tells (S.file shelf.old) (S.handed shelf.new) (map string_bytes words.now) (record { status = Status.NotShown; text = text })
-        × (K.taken sink.new ≡ K.taken sink.old ++ text)
-        × (IsTrue K.tells → K.written sink.new ≡ K.written sink.old ++ text) }
-    ensures usage { result ≡ Status.Usage → (text : List ℕ)
-        × CallsFor (map (λ w. watcher_value w) watchers.items) S.tells (S.file shelf.old) (S.handed shelf.new) (map string_bytes words.now) (record { status = Status.Usage; text = text })
-        × (K.taken sink.new ≡ K.taken sink.old ++ text)
-        × (IsTrue K.tells → K.written sink.new ≡ K.written sink.old ++ text) }
-    ensures refused { result ≡ Status.FileRefused → (text : List ℕ)
-        × CallsFor (map (λ w. watcher_value w) watchers.items) S.tells (S.file shelf.old) (S.handed shelf.new) (map string_bytes words.now) (record { status = Status.FileRefused; text = text })
-        × (K.taken sink.new ≡ K.taken sink.old ++ text)
-        × (IsTrue K.tells → K.written sink.new ≡ K.written sink.old ++ text) }
+    ensures not_shown { result ≡ Status.NotShown → IsWritten
+        (CallsFor (map (λ w. watcher_value w) watchers.items) S.tells (S.file shelf.old) (S.handed shelf.new) (map string_bytes words.now))
+        K.tells (K.taken sink.old) (K.taken sink.new) (K.written sink.old) (K.written sink.new) Status.NotShown }
+    ensures usage { result ≡ Status.Usage → IsWritten
+        (CallsFor (map (λ w. watcher_value w) watchers.items) S.tells (S.file shelf.old) (S.handed shelf.new) (map string_bytes words.now))
+        K.tells (K.taken sink.old) (K.taken sink.new) (K.written sink.old) (K.written sink.new) Status.Usage }
+    ensures refused { result ≡ Status.FileRefused → IsWritten
+        (CallsFor (map (λ w. watcher_value w) watchers.items) S.tells (S.file shelf.old) (S.handed shelf.new) (map string_bytes words.now))
+        K.tells (K.taken sink.old) (K.taken sink.new) (K.written sink.old) (K.written sink.new) Status.FileRefused }
     ensures read_fault { result ≡ Status.ReadFault
         → IsStopped S.tells (S.file shelf.old) (S.handed shelf.new) (map string_bytes words.now)
         × CountsFault (S.faults shelf.old) (S.faults shelf.new)
@@ -86,10 +84,13 @@ pub fn run<S: Shelf, K: Sink>(
         × CountsFault (K.faults sink.old) (K.faults sink.new)
         × AppendsPart (K.taken sink.old) (K.taken sink.new) text
         × (IsTrue K.tells → AppendsPart (K.written sink.old) (K.written sink.new) text) }
+    // Want of memory hides no fault: the shelf counted none, and the sink is as it was, so that nothing was offered to it.
     ensures memory { result ≡ Status.Memory
         → ((S.handed shelf.new ≡ S.handed shelf.old) ⊎ IsStopped S.tells (S.file shelf.old) (S.handed shelf.new) (map string_bytes words.now))
         × (K.taken sink.new ≡ K.taken sink.old)
-        × (IsTrue K.tells → K.written sink.new ≡ K.written sink.old) }
+        × (IsTrue K.tells → K.written sink.new ≡ K.written sink.old)
+        × (S.faults shelf.new ≡ S.faults shelf.old)
+        × (sink.new ≡ sink.old) }
     // Words that are not in the language have no other status, but where memory is wanting or a write fails.
     ensures usage_comes { (IsInLanguage (map string_bytes words.now) → ⊥)
         → (result ≡ Status.Usage) ⊎ (result ≡ Status.WriteFault) ⊎ (result ≡ Status.Memory) }
@@ -112,17 +113,15 @@ pub fn run<S: Shelf, K: Sink>(
     // of faults give the whole answer, or want of memory.
     ensures complete { IsSound S.tells (S.file shelf.old) (map string_bytes words.now)
         → IsQuiet (S.faults shelf.old) (S.faults shelf.new) → IsQuiet (K.faults sink.old) (K.faults sink.new)
-        → (result ≡ Status.Memory) ⊎ (((result ≡ Status.Done) ⊎ (result ≡ Status.NotShown)) × ((text : List ℕ)
-        × CallsFor (map (λ w. watcher_value w) watchers.items) S.tells (S.file shelf.old) (S.handed shelf.new) (map string_bytes words.now) (record { status = result; text = text })
-        × (K.taken sink.new ≡ K.taken sink.old ++ text)
-        × (IsTrue K.tells → K.written sink.new ≡ K.written sink.old ++ text))) }
+        → (result ≡ Status.Memory) ⊎ (((result ≡ Status.Done) ⊎ (result ≡ Status.NotShown)) × IsWritten
+        (CallsFor (map (λ w. watcher_value w) watchers.items) S.tells (S.file shelf.old) (S.handed shelf.new) (map string_bytes words.now))
+        K.tells (K.taken sink.old) (K.taken sink.new) (K.written sink.old) (K.written sink.new) result) }
     // The same of a file that was handed out whole, also where the shelf tells nothing, as real files.
     ensures complete_handed { HandsSound (S.handed shelf.new) (map string_bytes words.now)
         → IsQuiet (S.faults shelf.old) (S.faults shelf.new) → IsQuiet (K.faults sink.old) (K.faults sink.new)
-        → (result ≡ Status.Memory) ⊎ (((result ≡ Status.Done) ⊎ (result ≡ Status.NotShown)) × ((text : List ℕ)
-        × CallsFor (map (λ w. watcher_value w) watchers.items) S.tells (S.file shelf.old) (S.handed shelf.new) (map string_bytes words.now) (record { status = result; text = text })
-        × (K.taken sink.new ≡ K.taken sink.old ++ text)
-        × (IsTrue K.tells → K.written sink.new ≡ K.written sink.old ++ text))) }
+        → (result ≡ Status.Memory) ⊎ (((result ≡ Status.Done) ⊎ (result ≡ Status.NotShown)) × IsWritten
+        (CallsFor (map (λ w. watcher_value w) watchers.items) S.tells (S.file shelf.old) (S.handed shelf.new) (map string_bytes words.now))
+        K.tells (K.taken sink.old) (K.taken sink.new) (K.written sink.old) (K.written sink.new) result) }
     // A told file that is refused gives its line, where the counts do not rise, or want of memory.
     ensures refuses { (line : List ℕ) → IsRefused S.tells (S.file shelf.old) (map string_bytes words.now) line
         → IsQuiet (S.faults shelf.old) (S.faults shelf.new) → IsQuiet (K.faults sink.old) (K.faults sink.new)

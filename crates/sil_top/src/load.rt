@@ -1,6 +1,6 @@
 //! The loop of a file.
 
-ghost use Rattle.std.specs.Prelude.{◌≡◌, ℕ, List, [], ◌∷◌, ◌++◌, true, IsTrue, IsSome, IfOk, IfErr, IsErrOf};
+ghost use Rattle.std.specs.Prelude.{◌≡◌, ℕ, List, [], ◌∷◌, ◌++◌, true, IsTrue, IsSome, IfOk, IfErr, OnOk, IsErrOf};
 ghost use Rattle.sil_top.specs.Run.{IsFileOf, IsHandedWhole};
 ghost use Rattle.sil_top.specs.Causes.{IsFileFault};
 
@@ -16,6 +16,7 @@ use std::alloc::Global;
 pub fn load<S: Shelf>(alloc: Global, name: &str, shelf: &mut S) -> Result<Loop, Fault>
     ensures loaded { IfOk result (IsFileOf S.tells (S.file shelf.old) (S.handed shelf.new) name.now) }
     ensures fault { IfErr result (IsFileFault S.tells (S.file shelf.old) (S.handed shelf.new) name.now (S.faults shelf.old) (S.faults shelf.new)) }
+    ensures no_fault { OnOk result (S.faults shelf.new ≡ S.faults shelf.old) }
     ensures files_stay { IsTrue S.tells → (other : List ℕ) → S.file shelf.new other ≡ S.file shelf.old other }
     ensures tried { S.tried shelf.new ≡ S.tried shelf.old ++ name.now ∷ [] }
     ensures noted { IsErrOf result Fault.Read → S.failed shelf.new ≡ true }
@@ -38,6 +39,7 @@ pub fn load<S: Shelf>(alloc: Global, name: &str, shelf: &mut S) -> Result<Loop, 
 fn read_file<S: Shelf>(alloc: Global, name: &str, shelf: &mut S) -> Result<Vec<u8>, Fault>
     ensures whole { IfOk result (λ bytes. IsHandedWhole S.tells (S.file shelf.old) (S.handed shelf.new) name.now bytes.items) }
     ensures fault { IfErr result (IsFileFault S.tells (S.file shelf.old) (S.handed shelf.new) name.now (S.faults shelf.old) (S.faults shelf.new)) }
+    ensures no_fault { OnOk result (S.faults shelf.new ≡ S.faults shelf.old) }
     ensures files_stay { IsTrue S.tells → (other : List ℕ) → S.file shelf.new other ≡ S.file shelf.old other }
     ensures tried { S.tried shelf.new ≡ S.tried shelf.old ++ name.now ∷ [] }
     ensures noted { IsErrOf result Fault.Read → S.failed shelf.new ≡ true }

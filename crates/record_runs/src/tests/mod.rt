@@ -2,6 +2,7 @@
 
 ghost use Rattle.std.specs.Prelude.{◌≡◌, ◌<◌};
 
+mod many_records;
 mod restart_faults;
 mod short_of_room;
 mod sizes;

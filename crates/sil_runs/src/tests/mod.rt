@@ -5,6 +5,7 @@ mod faults;
 mod figures;
 mod files;
 mod lines;
+mod program;
 mod refusals;
 mod series;
 mod sizes;
