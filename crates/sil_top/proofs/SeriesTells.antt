@@ -1,13 +1,12 @@
 -- A series that is asked for tells the lines of the records that it took in.
 use Rattle.std.proofs.Common.{◌≡◌, ◌∙◌, ℕ, List, [], ◌∷◌, ◌++◌, map, refl, sym, ap, append_assoc, append-nil}
-use Rattle.sil_model.specs.LoopValue.{LoopValue}
 use Rattle.sil_watch.specs.Lines.{lines_of_all, lines_of_asked, line_of_record, text_of_lines}
 use Rattle.sil_watch.specs.Records.{numbers_of, numbers_of_all}
 use Rattle.sil_watch.specs.Series.{series_lines, series_value, with_record}
-use Rattle.sil_watch.specs.Watching.{WatcherValue, fold_of, fed_of, fed_with}
+use Rattle.sil_watch.specs.Watching.{WatcherValue, fold_of, fed_of}
 use Rattle.sil_watch.specs.declared.record.PhaseRecord.{PhaseRecord}
 use Rattle.sil_watch.proofs.Folds.{fed-asked}
-use Rattle.sil_top.specs.Report.{IsToldOfPhases, IsTextOfPhases, SeriesTells}
+use Rattle.sil_top.specs.Report.{SeriesTells}
 
 lines_of_records : (rs : List PhaseRecord) → series_lines (numbers_of_all rs) ≡ map line_of_record rs
 lines_of_records [] = refl
