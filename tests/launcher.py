@@ -172,6 +172,12 @@ class Toy:
         want(is_asked and LINE.fullmatch(said), f"{what}: no program that is not proved of these sources runs", status, written, said)
 
 
+def kit_keeps():
+    """Whether the kit can keep what it proves: in a folder of the same user beside its own, on a disk with some 5 GB left."""
+    kept = Path(shutil.which("rt")).resolve().parents[2] / "rattle-kept"
+    return kept.is_dir() and kept.stat().st_uid == os.geteuid() and shutil.disk_usage(kept).free > 6e9
+
+
 def unproved(toy):
     """Before any proof: names are those of the caller's folder, and statuses and output the program's own."""
     known = ["one.txt", "sub/with a blank.txt", "../above.txt", str(toy.here / "one.txt")]
@@ -208,8 +214,9 @@ def broken_off(toy):
     toy.is_not_run("after a proof that was broken off")
     status, said = toy.prove()
     last = said.splitlines()[-1] if said else ""
-    is_well = re.match(r"sil: proved in \d+ minutes by .+: the program and the 1 crates that it stands on \(1 of them by earlier runs\)", last)
-    want(status == 0 and is_well, "taken up again: proved, the first crate by the earlier run", said)
+    is_well = re.match(r"sil: proved in \d+ minutes by .+: the program and the 1 crates that it stands on", last)
+    want(status == 0 and is_well, "taken up again: proved", said)
+    want("(1 of them by earlier runs)" in last or not kit_keeps(), "taken up again: the first crate by the earlier run", said)
     toy.is_taken_as_proved("after ./prove")
     status, said = toy.prove()
     want((status, said) == (0, "sil: proved already, and nothing has changed since\n"), "nothing is proved twice", said)
