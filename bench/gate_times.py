@@ -1,12 +1,12 @@
 #!/usr/bin/env python3
 """Runs the gate and tells where its processor time goes, crate by crate.
 
-    bench/gate_times.py [--anew] [--table FILE] [LOG]
+    bench/gate_times.py [--anew] [--table FILE] LOG
 
-Runs `rt ci` at the top of the repository (with --anew: all of it, from nothing) with its lines in LOG (gate.log where
-none is named), reads the clocks of its processes five times a second, and prints, for each crate, the processor
-minutes of its proof, of its tests and of its must-fail edits, and the most memory that one process took. Only a run
-from nothing, alone on the machine, measures the gate: what an earlier run kept takes no time here.
+Runs `rt ci` at the top of the repository (with --anew: all of it, from nothing) and writes its lines to LOG. Reads the
+clocks of its processes five times a second and prints, for each crate, the processor minutes of its proof, of its tests
+and of its must-fail edits, and the most memory that one process took; each minute also to FILE. Only a run from nothing,
+alone on the machine, measures the gate: what an earlier run kept takes no time here.
 """
 
 import collections
@@ -112,8 +112,10 @@ def main():
     words = [it for it in words if it != "--anew"]
     to = words.pop(words.index("--table") + 1) if "--table" in words else None
     words = [it for it in words if it != "--table"]
+    if len(words) != 1:
+        sys.exit(__doc__)
     top = os.path.dirname(os.path.dirname(os.path.abspath(__file__)))
-    with open(words[0] if words else "gate.log", "w", encoding="utf-8") as log:
+    with open(words[0], "w", encoding="utf-8") as log:
         begun, seen = time.time(), {}
         run = subprocess.Popen(["rt", "ci", *anew], cwd=top, stdout=log, stderr=subprocess.STDOUT, stdin=subprocess.DEVNULL)
         shown = 0.0
