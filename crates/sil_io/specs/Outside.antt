@@ -1,6 +1,7 @@
 -- Files and the standard output, as contracts see them: which bytes they hold only those can tell that tell it, but which
 -- were read and written is known of all.
-use Rattle.std.specs.Prelude.{ℕ, Bool, List, Option, None, if◌then◌else◌}
+use Rattle.std.specs.Prelude.{ℕ, Bool, List, Option, None, if◌then◌else◌, take}
+use Rattle.std.specs.Io.KnownBytes.{Appends}
 use Rattle.std.specs.List.{concat, last_or}
 use Rattle.sil_io.specs.Handed.{Handed}
 
@@ -34,3 +35,7 @@ pub record OutState : Type 0 where
   -- whether the last call was a write that failed, or noted a stall
   pub failed : Bool
   pub faults : ℕ
+
+-- a writer that tells what it holds, holds what it held and then a front of the bytes, which may be none of them or all
+abbrev pub AppendsFront : Option (List ℕ) → Option (List ℕ) → List ℕ → Type 0
+AppendsFront before now bytes = (size : ℕ) × Appends before now (take size bytes)

@@ -17,6 +17,3 @@ pub use memory_sink::MemSink;
 pub use outside::{FileShelf, OutSink};
 pub use reading::{ReadFault, Shelf, read_to_limit};
 pub use writing::{Failed, Sink, write_whole};
-
-#[cfg(test)]
-mod tests;

@@ -1,15 +1,29 @@
-//! Real files and the standard output. Which bytes they hold no clause can tell; what was asked of them, what was read and
-//! what was written is kept for proofs alone.
+//! Real files and the standard output. Which bytes they hold no clause can tell; what was asked of them, what was read
+//! and what was written is kept for proofs alone.
 //!
-//! The clauses hold of every runtime. So where a runtime's files tell what their reads will give, as files in memory may,
-//! `read` hands out just that; and where a writer tells what it holds, a write appends just what it answers. Two things no
-//! clause of the library can tie, and they are read by eye: here [`fs::open`] opens the file of the name that it is given,
-//! and the writer that [`OutSink`] is made of, [`io::writer`] in the program, writes to the standard output.
-ghost use Rattle.std.specs.Prelude.{◌≡◌, ℕ, ◌≤◌, ◌<◌, ◌++◌, ◌∷◌, ◌↔◌, [], None, true, false, length, take, is_ok, is_err, IsTrue, IfOk, OnOk, OnErr};
+//! The clauses hold of every runtime and of every writer, and one body serves them all, which cannot ask which it has.
+//! Where an open file tells what its reads will give, as files in memory may, `read` hands out just that, leaves the
+//! file as it was where it fails, and answers 0 to a buffer with room only at the file's end. Where a writer tells what
+//! it holds, `write` adds to it just the bytes that it answers, or, where it fails, a front of those that it was given;
+//! `note_stall` adds nothing. What no clause ties, and a reader has to see, is
+//!
+//! - that `FileShelf::pick` opens the file of the name that it is given, `fs::open(self.rt, name)`, and keeps it as it
+//!   was opened: a body that opens another file, or reads some bytes first, meets every clause;
+//! - that no call of `FileShelf` does anything else with the files of the runtime, which it could write and remove too;
+//! - that `pick`, `read` and `write` fail only where the call of the library below them fails, and that `write` takes
+//!   bytes where the writer does: a body that always fails, or always takes nothing, meets every clause, and tests
+//!   alone refuse it;
+//! - that `OutSink::write` flushes the writer at each write, and fails where the flush fails: tests alone refuse a
+//!   flush that is left out, or whose failure is ignored;
+//! - that the sink of `main` is made of the standard output, `OutSink::new(io::writer(&rt))` in
+//!   `crates/sil/src/main.rt`;
+//! - that `main` hands its words, the real files and this sink to `run_program`, and ends with the number of the
+//!   answer.
+ghost use Rattle.std.specs.Prelude.{◌≡◌, ℕ, ◌≤◌, ◌<◌, ◌++◌, ◌∷◌, ◌↔◌, [], None, true, false, length, take, drop, is_ok, is_err, IsTrue, IsOk, IfOk, OnOk, OnErr};
 ghost use Rattle.std.specs.Io.KnownBytes.{Appends, Consumes, Keeps, IsAtEnd};
 ghost use Rattle.sil_io.specs.Faults.{CountsFault, counted};
 ghost use Rattle.sil_io.specs.Handed.{nothing_handed, handed_more};
-ghost use Rattle.sil_io.specs.Outside.{FilesState, OutState};
+ghost use Rattle.sil_io.specs.Outside.{FilesState, OutState, AppendsFront};
 
 use crate::log::Log;
 use crate::reading::Shelf;
@@ -65,39 +79,6 @@ impl<'a, R: Files> FileShelf<'a, R> {
             faults: 0,
         }
     }
-
-    // Reads from the open file, if one is open. Where it tells what its reads will give, just that is handed out.
-    fn read_open(&mut self, buf: &mut [u8]) -> Result<usize, Failed>
-        ensures within { IfOk result (λ n. n ≤ length buf.new) }
-        ensures consumed { IfOk result (λ n. Consumes self.old.remaining self.new.remaining (take n buf.new)) }
-        ensures kept { OnErr result (Keeps self.old.remaining self.new.remaining) }
-        ensures at_end { result ≡ Ok 0 → 0 < length buf.new → IsAtEnd self.new.remaining }
-        ensures handed { IfOk result (λ n. self.new.handed ≡ handed_more self.old.handed (take n buf.new)) }
-        ensures nothing_more { OnErr result (self.new.handed ≡ self.old.handed) }
-        ensures unpicked { self.old.picked ≡ false → IfOk result (λ n. n ≡ 0) }
-        ensures picked_stays { self.new.picked ≡ self.old.picked }
-        ensures tried_stay { self.new.tried ≡ self.old.tried }
-        ensures failed_stays { OnOk result (self.new.failed ≡ self.old.failed) }
-        ensures noted { OnErr result (self.new.failed ≡ true) }
-        ensures no_fault { OnOk result (self.new.faults ≡ self.old.faults) }
-        ensures counted { OnErr result (self.new.faults ≡ counted self.old.faults) }
-        ensures faults_never_fall { self.old.faults ≤ self.new.faults }
-    {
-        match &mut self.file {
-            None => Ok(0),
-            Some(file) => match file.read(buf) {
-                Ok(count) => {
-                    self.pieces.push(&buf[..count]);
-                    Ok(count)
-                }
-                Err(_) => {
-                    self.failed = true;
-                    self.faults = self.faults.saturating_add(1);
-                    Err(Failed)
-                }
-            },
-        }
-    }
 }
 
 impl<R: Files> Shelf for FileShelf<'_, R> {
@@ -138,8 +119,43 @@ impl<R: Files> Shelf for FileShelf<'_, R> {
         }
     }
 
-    fn read(&mut self, buf: &mut [u8]) -> Result<usize, Failed> {
-        self.read_open(buf)
+    /// Reads from the open file, if one is open. Where the file tells what its reads will give, just that is handed out,
+    /// a failed read leaves it as it was, and 0 for a buffer with room is its end.
+    fn read(&mut self, buf: &mut [u8]) -> Result<usize, Failed>
+        ensures within { IfOk result (λ n. n ≤ length buf.new) }
+        ensures consumed { IfOk result (λ n. Consumes self.old.remaining self.new.remaining (take n buf.new)) }
+        ensures kept { OnErr result (Keeps self.old.remaining self.new.remaining) }
+        ensures at_end { result ≡ Ok 0 → 0 < length buf.new → IsAtEnd self.new.remaining }
+        ensures handed { IfOk result (λ n. self.new.handed ≡ handed_more self.old.handed (take n buf.new)) }
+        ensures nothing_more { OnErr result (self.new.handed ≡ self.old.handed) }
+        ensures unpicked { self.old.picked ≡ false → IfOk result (λ n. n ≡ 0) }
+        ensures picked_stays { self.new.picked ≡ self.old.picked }
+        ensures tried_stay { self.new.tried ≡ self.old.tried }
+        ensures failed_stays { OnOk result (self.new.failed ≡ self.old.failed) }
+        ensures noted { OnErr result (self.new.failed ≡ true) }
+        ensures no_fault { OnOk result (self.new.faults ≡ self.old.faults) }
+        ensures one_fault { OnErr result (self.new.faults ≡ counted self.old.faults) }
+        ensures failed { OnErr result (CountsFault self.old.faults self.new.faults) }
+        ensures faults_never_fall { self.old.faults ≤ self.new.faults }
+        // The trait's clauses on shelves that tell their files or are calm: this one does not, and is not.
+        ensures given { IfOk result (λ n. IsTrue false → take n buf.new ≡ take n []) }
+        ensures rest { IfOk result (λ n. IsTrue false → nothing_handed.bytes ≡ drop n nothing_handed.bytes) }
+        ensures calm_reads { ⊥ → IsOk result × (self.new.faults ≡ self.old.faults) }
+    {
+        match &mut self.file {
+            None => Ok(0),
+            Some(file) => match file.read(buf) {
+                Ok(count) => {
+                    self.pieces.push(&buf[..count]);
+                    Ok(count)
+                }
+                Err(_) => {
+                    self.failed = true;
+                    self.faults = self.faults.saturating_add(1);
+                    Err(Failed)
+                }
+            },
+        }
     }
 }
 
@@ -196,10 +212,13 @@ impl<W: Write + Drop> Sink for OutSink<W> {
 
     ghost room = { λ _. 0 };
 
-    /// Writes to the output and flushes it. Whatever keeps the bytes from being written or flushed is a fault.
+    /// Writes to the output and flushes it. Whatever keeps the bytes from being written or flushed is a fault. Where the
+    /// writer tells what it holds, a write adds to it just what it answers, and a failed one nothing but a front of the
+    /// bytes.
     fn write(&mut self, bytes: &[u8]) -> Result<usize, Failed>
         ensures within { IfOk result (λ n. n ≤ length bytes.now) }
         ensures written { IfOk result (λ n. Appends self.old.held self.new.held (take n bytes.now)) }
+        ensures part_written { OnErr result (AppendsFront self.old.held self.new.held bytes.now) }
         ensures taken { IfOk result (λ n. self.new.taken ≡ self.old.taken ++ take n bytes.now) }
         ensures nothing_taken { OnErr result (self.new.taken ≡ self.old.taken) }
         ensures offered { self.new.offered ≡ self.old.offered ++ bytes.now ∷ [] }
@@ -207,6 +226,7 @@ impl<W: Write + Drop> Sink for OutSink<W> {
         ensures noted { self.new.failed ≡ is_err result }
         ensures faults_never_fall { self.old.faults ≤ self.new.faults }
         ensures no_fault { OnOk result (self.new.faults ≡ self.old.faults) }
+        ensures one_fault { OnErr result (self.new.faults ≡ counted self.old.faults) }
         ensures failed { OnErr result (CountsFault self.old.faults self.new.faults) }
     {
         self.offered.push(bytes);
@@ -226,17 +246,25 @@ impl<W: Write + Drop> Sink for OutSink<W> {
         }
     }
 
-    fn note_stall(&mut self) {
+    /// Writes nothing.
+    fn note_stall(&mut self)
+        requires { IsTrue self.old.stalled }
+        ensures one_fault { self.new ≡ record self.old { stalled = false; failed = true; faults = counted self.old.faults } }
+        ensures faults_never_fall { self.old.faults ≤ self.new.faults }
+        ensures counted { CountsFault self.old.faults self.new.faults }
+    {
         self.stalled = false;
         self.failed = true;
         self.faults = self.faults.saturating_add(1);
     }
 }
 
-// Where the writer tells what it holds, it holds the first bytes of these, as many as are answered.
+// Where the writer tells what it holds, it holds more by the first bytes of these, as many as are answered, and after an
+// error by no others. That the writer is flushed, and that the answer tells of a failed flush, no clause says.
 fn write_and_flush<W: Write>(out: &mut W, bytes: &[u8]) -> io::Result<usize>
     ensures within { IfOk result (λ n. n ≤ length bytes.now) }
     ensures written { IfOk result (λ n. Appends (W.contents out.old) (W.contents out.new) (take n bytes.now)) }
+    ensures part_written { OnErr result (AppendsFront (W.contents out.old) (W.contents out.new) bytes.now) }
 {
     let count = out.write(bytes)?;
     out.flush()?;

@@ -1,7 +1,7 @@
 //! Writing a text whole.
 ghost use Rattle.std.specs.Prelude.{◌≡◌, ℕ, ◌≤◌, ◌<◌, ◌++◌, ◌∷◌, ◌↔◌, Bool, true, false, List, [], take, length, is_err, IsTrue, IsOk, IfOk, OnOk, OnErr};
 ghost use Rattle.sil_io.specs.Faults.{CountsFault};
-ghost use Rattle.sil_io.specs.Bytes.{AppendsPart, OffersWhole};
+ghost use Rattle.sil_io.specs.Bytes.{AppendsPart, OffersWhole, StopsAtRest};
 
 use thiserror::Error;
 
@@ -66,9 +66,9 @@ pub trait Sink {
 
 /// Writes all the bytes, in as many writes as the sink wants.
 ///
-/// The first write is offered all the bytes, and each further one all that are left; for no bytes there is no write. A
-/// write that takes nothing is a stall: the sink counts it, and the answer is `Failed`. After `Failed` the sink holds a
-/// part of the bytes from their start on, and never all of them.
+/// The first write is offered all the bytes, and each further one all that are left, which are some and fewer than
+/// before; for no bytes there is no write. A write that takes nothing is a stall: the sink counts it, and the answer is
+/// `Failed`. After `Failed` the sink holds a part of the bytes from their start on, and never all of them.
 pub fn write_whole<K: Sink>(sink: &mut K, bytes: &[u8]) -> Result<(), Failed>
     ensures whole { OnOk result (IsTrue K.tells → K.written sink.new ≡ K.written sink.old ++ bytes.now) }
     ensures part { OnErr result (IsTrue K.tells → AppendsPart (K.written sink.old) (K.written sink.new) bytes.now) }
@@ -77,6 +77,7 @@ pub fn write_whole<K: Sink>(sink: &mut K, bytes: &[u8]) -> Result<(), Failed>
     ensures not_for_nothing { OnErr result (0 < length bytes.now) }
     ensures untouched { length bytes.now ≡ 0 → sink.new ≡ sink.old }
     ensures offered { 0 < length bytes.now → OffersWhole bytes.now (K.offered sink.old) (K.offered sink.new) }
+    ensures stopped { OnErr result (StopsAtRest bytes.now (K.taken sink.old) (K.taken sink.new) (K.offered sink.new)) }
     ensures over { 0 < length bytes.now → K.stalled sink.new ≡ false }
     ensures noted { 0 < length bytes.now → K.failed sink.new ≡ is_err result }
     ensures faults_never_fall { K.faults sink.old ≤ K.faults sink.new }

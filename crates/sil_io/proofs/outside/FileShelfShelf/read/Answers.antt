@@ -4,7 +4,7 @@ use Rattle.std.specs.List.{concat, last_or}
 use Rattle.sil_io.specs.Handed.{handed_more}
 use Rattle.sil_io.specs.Outside.{handed_by}
 use Rattle.sil_io.proofs.Logs.{concat-push}
-use Rattle.sil_io.proofs.outside.FileShelf.read_open.Goals as goal
+use Rattle.sil_io.proofs.outside.FileShelfShelf.read.Goals as goal
 
 pub returns-in-Ok-clause-handed : goal.returns-in-Ok-clause-handed
 returns-in-Ok-clause-handed g c =

@@ -1,10 +1,7 @@
-use super::{
-    FileShelf, MemShelf, MemSink, OutSink, ReadFault, Shelf, Sink, read_to_limit, write_whole,
-};
+//! The shelf and the sink in memory.
+use super::TEXT;
+use sil_io::{MemShelf, MemSink, ReadFault, Shelf, Sink, read_to_limit, write_whole};
 use std::test::Fail;
-use std::{fs, io};
-
-const TEXT: &[u8] = b"mission 8760\n";
 
 #[test]
 fn reads_a_file_of_at_most_the_limit(rt: HostRuntime) -> Result<(), Fail> {
@@ -145,25 +142,4 @@ fn a_file_whose_read_fails_is_not_read_whole(rt: HostRuntime) -> Result<(), Fail
         }
     }
     Ok(())
-}
-
-#[test]
-fn reads_a_real_file_and_refuses_a_missing_one(rt: HostRuntime) -> Result<(), Fail> {
-    let path = "sil-io-test.toml";
-    fs::write(&rt, path, TEXT)?;
-    let mut shelf = FileShelf::new(&rt);
-    let picked = shelf.pick(path);
-    let read = read_to_limit(rt.alloc(), &mut shelf, 13);
-    fs::remove_file(&rt, path)?;
-    assert!(rt; picked.is_ok());
-    assert_eq!(rt; read?.as_slice(), TEXT);
-    assert!(rt; shelf.pick(path).is_err());
-    assert_eq!(rt; read_to_limit(rt.alloc(), &mut shelf, 13)?.len(), 0);
-    Ok(())
-}
-
-#[test]
-fn writes_to_the_standard_output(rt: HostRuntime) {
-    let mut sink = OutSink::new(io::writer(&rt));
-    assert!(rt; write_whole(&mut sink, TEXT).is_ok());
 }
