@@ -55,7 +55,7 @@ fn one_is_followed_by_two(rt: HostRuntime) {
     assert_eq!(rt; next(1), 2);
 }
 """
-MAIN = """// Writes the files that its words name, and ends with 3, or with 4 where one cannot be read.
+MAIN = """// Writes the files that its words name, and ends with 3, or with 4 where one cannot be read. MARK
 #![tactic(auto)]
 
 ghost use Rattle.std.specs.Prelude.{◌≡◌};
@@ -114,7 +114,7 @@ class Toy:
     def __init__(self, room, mark):
         self.top, self.here = room / "toy", room / "here"
         low = {"lib.rt": LOW.replace("MARK", mark), "more.rt": MORE, "tests.rt": TESTS}
-        for crate, files in (("low", low), ("sil", {"main.rt": MAIN})):
+        for crate, files in (("low", low), ("sil", {"main.rt": MAIN.replace("MARK", mark)})):
             (self.top / "crates" / crate / "src").mkdir(parents=True)
             for name, text in files.items():
                 (self.top / "crates" / crate / "src" / name).write_text(text)
@@ -283,7 +283,7 @@ def main():
     if len(sys.argv) > 1:
         sys.exit(__doc__)
     with tempfile.TemporaryDirectory(prefix="sil-launcher-") as room:
-        # Sources that no run before has proved.
+        # Sources that no run before has proved: of both crates, since a library is the same whatever its comments say.
         mark = f"{os.getpid()} {time.time()}"
         toys = [Toy(Path(room) / str(number), mark) for number in range(4)]
         with ThreadPoolExecutor(len(toys)) as pool:
