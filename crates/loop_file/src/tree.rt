@@ -63,9 +63,10 @@ pub fn read_tables<'a>(
     let mut tables = Vec::new(top.alloc);
     for (i, entry) in entries.iter().enumerate() {
         match entry.as_table() {
-            Some(table) => tables
-                .push(table)
-                .map_err(|_| FileFault::Memory(AllocError))?,
+            Some(table) => match tables.push(table) {
+                Ok(()) => {}
+                Err(_) => return Err(FileFault::Memory(AllocError)),
+            },
             None => {
                 let path = array_path(top.alloc, key, i).map_err(FileFault::Memory)?;
                 return Err(FileFault::WrongKind(path));

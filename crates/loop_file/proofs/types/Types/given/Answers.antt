@@ -1,4 +1,4 @@
-use Rattle.std.proofs.Common.{◌≡◌, ◌∙◌, sym, false, rules, is_some, ap}
+use Rattle.std.proofs.Common.{◌≡◌, ◌∙◌, ◌<◌, sym, false, rules, is_some, ap, length, arith, Ok}
 use Rattle.std.specs.List.{list_any}
 use Rattle.std.specs.Str.{bytes_eq}
 use Rattle.std.proofs.lemmas.List.Quantifiers.{position-Some}
@@ -8,9 +8,15 @@ use Rattle.loop_file.proofs.types.Types.given.Goals as goal
 pub returns-in-Some : goal.returns-in-Some
 returns-in-Some c =
     let at = position-Some (λ k. bytes_eq c.args.name.now k.now) c.args.self.now.names.keys c.in-Some.i c.args.name (sym c.get_index_of.ensures.index ∙ c.in-Some.is) in
-    rw (given_found c.args.name.now c.args.self.now.names.keys c.args.self.now.given.items c.in-Some.i c.index.result.now c.args.name c.args.self.now.as_many at.0 at.1 at.2) (search rules)
+    rw (given_found c.args.name.now c.args.self.now.names.keys c.args.self.now.given.items c.in-Some.i c.index.result.now c.args.name c.args.self.now.as_many at.0 at.1 at.2) (ap Ok c.index.ensures)
 
 pub returns-in-None : goal.returns-in-None
 returns-in-None c =
     let none : list_any (λ k. bytes_eq c.args.name.now k.now) c.args.self.now.names.keys ≡ false = sym c.get_index_of.ensures.found ∙ ap is_some c.in-None.is in
     sym (given_missing c.args.name.now c.args.self.now.names.keys c.args.self.now.given.items none)
+
+pub index-requires : goal.index-requires
+index-requires c =
+    let at = position-Some (λ k. bytes_eq c.args.name.now k.now) c.args.self.now.names.keys c.in-Some.i c.args.name (sym c.get_index_of.ensures.index ∙ c.in-Some.is) in
+    let within : c.in-Some.i < length c.args.self.now.names.keys = at.0 in
+    omega (arith, c.args.self.now.as_many, c.args.self.now.given.ok.0)
