@@ -17,8 +17,11 @@
 //!   flush that is left out, or whose failure is ignored;
 //! - that the sink of `main` is made of the standard output, `OutSink::new(io::writer(&rt))` in
 //!   `crates/sil/src/main.rt`;
-//! - that `main` hands its words, the real files and this sink to `run_program`, and ends with the number of the
-//!   answer.
+//! - that `FileShelf` and `OutSink` do nothing when they are dropped, since no clause speaks of a drop: one that writes
+//!   to the writer or to the files of the runtime meets every clause, and a test refuses only the first;
+//! - that `main` hands its words but the first, the real files and this sink to `run_program`, does nothing else with
+//!   the runtime, and ends with the number of the answer; where it cannot have its words, it ends with that of `Memory`
+//!   or, if they are not UTF-8, of `Usage`.
 ghost use Rattle.std.specs.Prelude.{◌≡◌, ℕ, ◌≤◌, ◌<◌, ◌++◌, ◌∷◌, ◌↔◌, [], None, true, false, length, take, drop, is_ok, is_err, IsTrue, IsOk, IfOk, OnOk, OnErr};
 ghost use Rattle.std.specs.Io.KnownBytes.{Appends, Consumes, Keeps, IsAtEnd};
 ghost use Rattle.sil_io.specs.Faults.{CountsFault, counted};

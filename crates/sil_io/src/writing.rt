@@ -36,8 +36,8 @@ pub trait Sink {
     // the sink tells that it takes a piece of at most so many bytes whole, without a fault; 0 tells nothing
     ghost room: { Self → ℕ };
 
-    /// Writes the first bytes of a piece, and answers how many it took. After `Failed` the bytes written are as
-    /// before. An answer 0 to a piece that is not empty is a stall.
+    /// Writes the first bytes of a piece, and answers how many it took. After `Failed` nothing counts as taken, and a
+    /// sink that tells holds what it held. An answer 0 to a piece that is not empty is a stall.
     fn write(&mut self, bytes: &[u8]) -> Result<usize, Failed>
         ensures within { IfOk result (λ n. n ≤ length bytes.now) }
         ensures appended { IfOk result (λ n. IsTrue tells → written self.new ≡ written self.old ++ take n bytes.now) }
@@ -68,7 +68,8 @@ pub trait Sink {
 ///
 /// The first write is offered all the bytes, and each further one all that are left, which are some and fewer than
 /// before; for no bytes there is no write. A write that takes nothing is a stall: the sink counts it, and the answer is
-/// `Failed`. After `Failed` the sink holds a part of the bytes from their start on, and never all of them.
+/// `Failed`. After `Failed` a part of the bytes from their start on was taken, and never all of them; a sink that tells
+/// holds just that part more.
 pub fn write_whole<K: Sink>(sink: &mut K, bytes: &[u8]) -> Result<(), Failed>
     ensures whole { OnOk result (IsTrue K.tells → K.written sink.new ≡ K.written sink.old ++ bytes.now) }
     ensures part { OnErr result (IsTrue K.tells → AppendsPart (K.written sink.old) (K.written sink.new) bytes.now) }

@@ -37,9 +37,9 @@ pub enum Status {
     FileRefused = 3,
     /// A pick or a read failed. Nothing was written.
     ReadFault = 4,
-    /// A write failed or stalled. A part of the text was written, and not all of it.
+    /// A write failed or stalled. A part of the text was taken, and not all of it.
     WriteFault = 5,
-    /// Memory was wanting. Nothing was written.
+    /// Out of memory. Nothing was written.
     Memory = 6,
 }
 
