@@ -1,7 +1,7 @@
 #!/usr/bin/env python3
 """Runs the gate and tells where its processor time goes, crate by crate.
 
-    bench/gate_times.py [--anew] [--table FILE] LOG
+    python3 bench/gate_times.py [--anew] [--table FILE] LOG
 
 Runs `rt ci` at the top of the repository (with --anew: all of it, from nothing) and writes its lines to LOG. Reads the
 clocks of its processes five times a second and prints, for each crate, the processor minutes of its proof, of its tests

@@ -107,7 +107,7 @@ failures = []
 def want(holds, what, *seen):
     if not holds:
         failures.append(what)
-        print(f"launcher.py: WRONG: {what}", *(f"    {it}" for it in seen), sep="\n", flush=True)
+        print(f"launcher.py: WRONG: {what}", *("    " + str(it).replace("\n", "\n    ") for it in seen), sep="\n", flush=True)
 
 
 class Toy:

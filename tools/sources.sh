@@ -37,6 +37,7 @@ proved_lines() {
 
 # Notes that the program was proved and built from sources with that checksum.
 note_proved() {
+    [ -n "$2" ] || return 1
     note=$(program_of "$1").proved
     proved_lines "$1" "$2" "$(kit_line)" >"$note.new" && mv "$note.new" "$note"
 }
