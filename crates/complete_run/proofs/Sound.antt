@@ -10,6 +10,7 @@ use Rattle.verb_table.specs.Table.{Row, verb_table, need, mode, series}
 use Rattle.verb_table.specs.declared.verb.Positional.TheVariants.{Name}
 use Rattle.verb_table.specs.declared.verb.Verb.TheVariants.{Check}
 use Rattle.sil_watch.specs.Watching.{WatcherValue}
+use Rattle.sil_watch.specs.Kinds.{no_kinds}
 use Rattle.sil_watch.specs.Lines.{lines_of_all}
 use Rattle.sil_words.specs.Language.{Asks, IsCall, Reading, plain}
 use Rattle.sil_words.specs.declared.ask.Ask.{Ask}
@@ -29,7 +30,7 @@ abbrev pub words : List (List ℕ)
 words = codes "check" ∷ codes "loop.toml" ∷ []
 
 abbrev pub asked : Ask
-asked = record { verb = Check; name = codes "loop.toml"; number = 0; need = None; mode = Low; watch = 0 }
+asked = record { verb = Check; name = codes "loop.toml"; number = 0; need = None; mode = Low; watch = no_kinds }
 
 abbrev row : Row
 row = record { verb = Check; word = codes "check"; positional = Name; choices = need ∷ mode ∷ series ∷ [] }
@@ -60,7 +61,7 @@ pub record IsShortReport (l : LoopValue) (o : Outcome) : Type 0 where
 alone : (l : LoopValue) (o : Outcome) → IsReported [] asked l o → IsShortReport l o
 alone l o r =
     let after : r.told.after ≡ [] = r.told.fed.fed in
-    let lines : r.lines ≡ [] = r.told.printed ∙ ap (lines_of_all 0) after in
+    let lines : r.lines ≡ [] = r.told.printed ∙ ap (lines_of_all no_kinds) after in
     let text : o.text ≡ r.front = r.printed ∙ ap (λ xs. r.front ++ xs) lines ∙ append-nil r.front in
     record {
       status = r.status;

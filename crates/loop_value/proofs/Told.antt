@@ -18,6 +18,7 @@ use Rattle.phase_laws.specs.Laws.{HasPassed, HasSides, PassesBeats}
 use Rattle.phase_laws.proofs.Arrived.{arrival_laws}
 use Rattle.phase_laws.proofs.PhaseFigures.{phase_figure_laws}
 use Rattle.sil_watch.specs.Watching.{WatcherValue, fed_of}
+use Rattle.sil_watch.specs.declared.kind.WatchSet.{WatchSet}
 use Rattle.sil_watch.specs.declared.record.PhaseRecord.{PhaseRecord}
 use Rattle.sil_watch.proofs.Folds.{all-more, all-nothing}
 use Rattle.loop_value.specs.Ends.{sum_down, sum_up}
@@ -108,7 +109,7 @@ module _ (l : LoopValue) (order : ℕ) where
   records-more q [] r are is = (rw (zero-add q) at is, tt)
   records-more q (s ∷ rs) r are is = let e : suc (length rs) + q ≡ length rs + suc q = omega arith in (are.0, records-more (suc q) rs r are.1 (rw e at is))
 
-  module _ (asked : ℕ) where
+  module _ (asked : WatchSet) where
     pub fed_start : (before : List WatcherValue) → HasFed l order 0 asked before before
     fed_start before = record { records = []; number = refl; are = tt; fed = sym (all-nothing asked before) }
 

@@ -5,6 +5,7 @@ use Rattle.sil_model.specs.Calendar.{phases_of}
 use Rattle.sil_model.specs.Figures.{no_phase, phase_mean_of, phase_end_of, Contains18}
 use Rattle.sil_model.specs.LoopValue.{LoopValue}
 use Rattle.sil_watch.specs.Watching.{WatcherValue, fed_of, AreFedInPart}
+use Rattle.sil_watch.specs.declared.kind.WatchSet.{WatchSet}
 use Rattle.sil_watch.specs.declared.record.PhaseRecord.{PhaseRecord}
 
 -- the record of the phase p: both intervals hold for every order from this one on, and are no wider than that of PFDavg may be
@@ -23,27 +24,27 @@ AreRecordsFrom l order p [] = Unit {0}
 AreRecordsFrom l order p (r ∷ rs) = IsRecordOf l order p r × AreRecordsFrom l order (suc p) rs
 
 -- the watchers that are asked for took in the records of the first p phases, one of each, and the others none
-pub record HasFed (l : LoopValue) (order p asked : ℕ) (before after : List WatcherValue) : Type 0 where
+pub record HasFed (l : LoopValue) (order p : ℕ) (asked : WatchSet) (before after : List WatcherValue) : Type 0 where
   pub records : List PhaseRecord
   pub number : length records ≡ p
   pub are : AreRecordsFrom l order 0 records
   pub fed : after ≡ map (fed_of asked records) before
 
 -- memory was wanting on the way: they took in the records of some first phases, but of some of them the last ones may be missing
-pub record HasFedInPart (l : LoopValue) (order asked : ℕ) (before after : List WatcherValue) : Type 0 where
+pub record HasFedInPart (l : LoopValue) (order : ℕ) (asked : WatchSet) (before after : List WatcherValue) : Type 0 where
   pub records : List PhaseRecord
   pub number : length records ≤ length (phases_of l)
   pub are : AreRecordsFrom l order 0 records
   pub fed : AreFedInPart asked records before after
 
 -- they took in the record of the phase p
-pub record HasFedPhase (l : LoopValue) (order p asked : ℕ) (before after : List WatcherValue) : Type 0 where
+pub record HasFedPhase (l : LoopValue) (order p : ℕ) (asked : WatchSet) (before after : List WatcherValue) : Type 0 where
   pub rec : PhaseRecord
   pub is : IsRecordOf l order p rec
   pub fed : after ≡ map (fed_of asked (rec ∷ [])) before
 
 -- the first `count` did
-pub record HasFedPhaseInPart (l : LoopValue) (order p asked : ℕ) (before after : List WatcherValue) : Type 0 where
+pub record HasFedPhaseInPart (l : LoopValue) (order p : ℕ) (asked : WatchSet) (before after : List WatcherValue) : Type 0 where
   pub rec : PhaseRecord
   pub is : IsRecordOf l order p rec
   pub count : ℕ

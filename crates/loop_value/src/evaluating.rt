@@ -24,7 +24,7 @@ use crate::preparing::prepare;
 use entry_rates::failure_rate;
 use interval_fixed::{Interval, ONE};
 use sil_model::{Decimal18, LimitFault, Loop, Sizes, Steps, Value};
-use sil_watch::Watcher;
+use sil_watch::{WatchSet, Watcher};
 use std::alloc::{AllocError, Global};
 use std::sync::ledger::Ledger;
 use test_calendar::Plan;
@@ -34,14 +34,14 @@ use test_calendar::Plan;
 ///
 /// The limits are those of [`crate::measure`]. All memory but that of the watchers is taken before the first beat.
 ///
-/// The watchers whose kind shares a bit with `asked` are fed a record of every phase, in order of the phases, and each before
+/// The watchers whose kind is asked for are fed a record of every phase, in order of the phases, and each before
 /// the next is made. If memory is wanting to one of them, the computation ends. Where none is asked for, no record is made.
 pub fn value<L: Ledger>(
     alloc: Global,
     l: &Loop,
     order: u8,
     feed: &mut [Box<dyn Watcher>],
-    asked: u8,
+    asked: WatchSet,
     steps: &mut Steps<L>,
 ) -> Result<Value, ValueFault>
     requires least { 16 ≤ order }
@@ -99,7 +99,7 @@ fn compute<L: Ledger>(
     sizes: Sizes,
     order: u8,
     feed: &mut [Box<dyn Watcher>],
-    asked: u8,
+    asked: WatchSet,
     steps: &mut Steps<L>,
 ) -> Result<Value, AllocError>
     requires plan { IsPlanOf l.now plan.now }
@@ -164,7 +164,7 @@ fn evaluate<L: Ledger>(
     mean: &mut [u128],
     dwell: &mut [u128],
     feed: &mut [Box<dyn Watcher>],
-    asked: u8,
+    asked: WatchSet,
     steps: &mut Steps<L>,
 ) -> Result<Figures, AllocError>
     requires plan { IsPlanOf l.now plan.now }

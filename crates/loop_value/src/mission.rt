@@ -30,7 +30,7 @@ use phase_separate::run_phase_separately;
 use product_chain::Chain;
 use series_weights::Weights;
 use sil_model::{Loop, Steps};
-use sil_watch::Watcher;
+use sil_watch::{WatchSet, Watcher};
 use std::alloc::AllocError;
 use std::sync::ledger::Ledger;
 use test_calendar::{Plan, beats_of};
@@ -348,7 +348,7 @@ fn pass_to_next<L: Ledger>(
     dwell: &mut [u128],
     before: Passages,
     feed: &mut [Box<dyn Watcher>],
-    asked: u8,
+    asked: WatchSet,
     steps: &mut Steps<L>,
 ) -> Result<Passages, AllocError>
     requires plan { IsPlanOf l.now plan.now }
@@ -391,7 +391,7 @@ pub fn pass_mission<L: Ledger>(
     mean: &mut [u128],
     dwell: &mut [u128],
     feed: &mut [Box<dyn Watcher>],
-    asked: u8,
+    asked: WatchSet,
     steps: &mut Steps<L>,
 ) -> Result<Passages, AllocError>
     requires plan { IsPlanOf l.now plan.now }

@@ -14,7 +14,7 @@ ghost use Rattle.loop_value.specs.Records.{IsRecordOf, HasFedPhase, HasFedPhaseI
 use crate::ends::sides;
 use interval_fixed::Interval;
 use sil_model::{Decimal18, Loop};
-use sil_watch::{PhaseRecord, Watcher, any_asked};
+use sil_watch::{PhaseRecord, WatchSet, Watcher, any_asked};
 use std::alloc::AllocError;
 use test_calendar::Plan;
 
@@ -28,7 +28,7 @@ pub fn tell(
     mean: &[u128],
     end: &[u128],
     feed: &mut [Box<dyn Watcher>],
-    asked: u8,
+    asked: WatchSet,
 ) -> Result<(), AllocError>
     requires plan { IsPlanOf l.now plan.now }
     requires within { p < length (phases_of l.now) }

@@ -8,10 +8,9 @@ mod bands;
 mod refusals;
 mod reports;
 mod sizes;
-mod usage;
 
 pub use bands::{band_text, lines_fix_numbers};
 pub use refusals::{file_fault_text, limit_fault_text, too_long_text};
 pub use reports::report;
 pub use sizes::{counts_text, size_text};
-pub use usage::usage_text;
+pub use verb_table::usage_text;

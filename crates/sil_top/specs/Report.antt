@@ -1,5 +1,5 @@
 -- What makes a report true.
-use Rattle.std.specs.Prelude.{◌≡◌, ℕ, ◌+◌, ◌/◌, ◌<◌, ◌≤◌, ◌^◌, List, [], ◌∷◌, ◌++◌, length, map, None}
+use Rattle.std.specs.Prelude.{◌≡◌, ℕ, ◌+◌, ◌/◌, ◌<◌, ◌≤◌, ◌^◌, List, [], ◌∷◌, ◌++◌, length, map, true, None}
 use Rattle.sil_model.specs.LoopValue.{LoopValue}
 use Rattle.sil_model.specs.Budget.{pfd_width_of, pfh_width_of}
 use Rattle.sil_model.specs.Calendar.{phases_of}
@@ -10,9 +10,12 @@ use Rattle.limit_laws.specs.Exact.{Figure, figure_of, ContainsExact18}
 use Rattle.limit_laws.specs.Exact.Figure.{Pfd, Pfh}
 use Rattle.sil_report.specs.FixedBy.{Interval, Counts}
 use Rattle.sil_report.specs.Reports.{report_lines}
+use Rattle.sil_watch.specs.Kinds.{holds}
 use Rattle.sil_watch.specs.Lines.{lines_of_all, line_of_record, text_of_lines}
 use Rattle.sil_watch.specs.Series.{series_value}
 use Rattle.sil_watch.specs.Watching.{WatcherValue}
+use Rattle.sil_watch.specs.declared.kind.WatchSet.{WatchSet}
+use Rattle.sil_watch.specs.declared.kind.WatcherKind.TheVariants.{Series}
 use Rattle.sil_watch.specs.declared.record.PhaseRecord.{PhaseRecord}
 use Rattle.loop_value.specs.Records.{HasFed, AreRecordsFrom}
 
@@ -50,7 +53,7 @@ pub record IsTrueReport (l : LoopValue) (text : List ℕ) : Type 0 where
 
 -- the text has the lines of the watchers that are asked for, after they took in one true record of each phase, in order of the
 -- phases; it is empty where none is asked for
-pub record IsToldOfPhases (l : LoopValue) (asked : ℕ) (before : List WatcherValue) (text : List ℕ) : Type 0 where
+pub record IsToldOfPhases (l : LoopValue) (asked : WatchSet) (before : List WatcherValue) (text : List ℕ) : Type 0 where
   pub after : List WatcherValue
   pub fed : HasFed l l.order (length (phases_of l)) asked before after
   pub printed : text ≡ lines_of_all asked after
@@ -64,7 +67,8 @@ pub record IsTextOfPhases (l : LoopValue) (text : List ℕ) : Type 0 where
 
 -- that is what a series tells which had no record before and is asked for
 pub record SeriesTells : Type 0 where
-  pub told : (l : LoopValue) (text : List ℕ) → IsToldOfPhases l 1 (series_value [] ∷ []) text → IsTextOfPhases l text
+  pub told : (l : LoopValue) (asked : WatchSet) (text : List ℕ) → holds asked Series ≡ true → IsToldOfPhases l asked (series_value [] ∷ []) text
+      → IsTextOfPhases l text
 
 -- one report of a loop has one interval of each figure, and where it ends is told by its text, whatever is written behind it
 pub record ReportsFixFigures : Type 0 where

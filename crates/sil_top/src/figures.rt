@@ -14,7 +14,7 @@ use loop_value::{ValueFault, value};
 use sil_bands::{meets, pfd_band, pfh_band};
 use sil_model::{Band, Loop, Steps, Value};
 use sil_report::{limit_fault_text, report};
-use sil_watch::{Watcher, put_lines};
+use sil_watch::{WatchSet, Watcher, put_lines};
 use sil_words::{Ask, Mode};
 use std::alloc::{AllocError, Global};
 use std::marker::Brand;
@@ -63,13 +63,13 @@ fn evaluate<L: Ledger>(
     }
 }
 
-/// The report of a value, and behind it the lines of the watchers whose kind shares a bit with `asked`.
+/// The report of a value, and behind it the lines of the watchers whose kind is asked for.
 fn report_and_lines(
     alloc: Global,
     l: &Loop,
     v: &Value,
     watchers: &[Box<dyn Watcher>],
-    asked: u8,
+    asked: WatchSet,
 ) -> Result<Vec<u8>, AllocError>
     ensures { IfOk result (λ text. (front : List ℕ) × IsReport l.now.mission v.now front
         × (text.items ≡ front ++ lines_of_all asked (map (λ w. watcher_value w) watchers.now))) }

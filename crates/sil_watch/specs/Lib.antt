@@ -1,3 +1,4 @@
+pub mod Kinds
 pub mod Watching
 pub mod Records
 pub mod Lines

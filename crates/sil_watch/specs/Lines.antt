@@ -3,6 +3,7 @@ use Rattle.std.specs.Prelude.{◌≡◌, ℕ, ◌<◌, ◌≤◌, Bool, true, fa
 use Rattle.std.specs.List.{flat_map}
 use Rattle.sil_text.specs.Figure.{decimal18}
 use Rattle.sil_watch.specs.Watching.{WatcherValue, is_asked_of}
+use Rattle.sil_watch.specs.declared.kind.WatchSet.{WatchSet}
 use Rattle.sil_watch.specs.declared.record.PhaseRecord.{PhaseRecord}
 
 -- what is put of line i: the line and a line feed, or nothing where there is no such line
@@ -15,11 +16,11 @@ abbrev pub text_of_lines : List (List ℕ) → List ℕ
 text_of_lines lines = flat_map (λ line. line ++ codes "\n") lines
 
 -- the lines of a watcher, if it is asked for
-unfoldable pub lines_of_asked : ℕ → WatcherValue → List ℕ
+unfoldable pub lines_of_asked : WatchSet → WatcherValue → List ℕ
 lines_of_asked asked w = if is_asked_of asked w then text_of_lines (w.lines w.state) else []
 
 -- the lines of watchers in a list, of those that are asked for
-abbrev pub lines_of_all : ℕ → List WatcherValue → List ℕ
+abbrev pub lines_of_all : WatchSet → List WatcherValue → List ℕ
 lines_of_all asked ws = flat_map (lines_of_asked asked) ws
 
 -- the two ends of an interval, in units of 10^-18

@@ -3,6 +3,7 @@ use Rattle.std.specs.Prelude.{ℕ, List, [], ◌∷◌, ◌++◌}
 use Rattle.sil_watch.specs.Lines.{phase_line}
 use Rattle.sil_watch.specs.Records.{numbers_of, numbers_of_all}
 use Rattle.sil_watch.specs.Watching.{WatcherValue}
+use Rattle.sil_watch.specs.declared.kind.WatcherKind.TheVariants.{Series}
 use Rattle.sil_watch.specs.declared.record.PhaseRecord.{PhaseRecord}
 
 -- a record more
@@ -17,4 +18,4 @@ series_lines _ = []
 
 -- the series of these records
 abbrev pub series_value : List PhaseRecord → WatcherValue
-series_value rs = record { kind = 1; state = numbers_of_all rs; rule = with_record; lines = series_lines }
+series_value rs = record { kind = Series; state = numbers_of_all rs; rule = with_record; lines = series_lines }

@@ -1,11 +1,14 @@
 -- Watchers, and what records make of them.
-use Rattle.std.specs.Prelude.{◌≡◌, ℕ, Bool, not, ◌==◌, List, [], ◌∷◌, ◌++◌, map, take, drop, bit_and, if◌then◌else◌}
+use Rattle.std.specs.Prelude.{◌≡◌, ℕ, Bool, List, [], ◌∷◌, ◌++◌, map, take, drop, if◌then◌else◌}
+use Rattle.sil_watch.specs.Kinds.{holds}
+use Rattle.sil_watch.specs.declared.kind.WatchSet.{WatchSet}
+use Rattle.sil_watch.specs.declared.kind.WatcherKind.{WatcherKind}
 use Rattle.sil_watch.specs.declared.record.PhaseRecord.{PhaseRecord}
 
--- a watcher as contracts see it: its kind, a bit pattern; its state; its rule, which makes the next state of a state and a
--- record; and how lines, without their line feeds, are made of a state
+-- a watcher as contracts see it: its kind; its state; its rule, which makes the next state of a state and a record; and how
+-- lines, without their line feeds, are made of a state
 pub record WatcherValue : Type 0 where
-  pub kind : ℕ
+  pub kind : WatcherKind
   pub state : List ℕ
   pub rule : List ℕ → PhaseRecord → List ℕ
   pub lines : List ℕ → List (List ℕ)
@@ -19,16 +22,16 @@ fold_of rule state (r ∷ rs) = fold_of rule (rule state r) rs
 abbrev pub fed_with : List PhaseRecord → WatcherValue → WatcherValue
 fed_with rs w = record w { state = fold_of w.rule w.state rs }
 
--- its kind shares a bit with what is asked for
-abbrev pub is_asked_of : ℕ → WatcherValue → Bool
-is_asked_of asked w = not (bit_and w.kind asked == 0)
+-- its kind is among those that are asked for
+abbrev pub is_asked_of : WatchSet → WatcherValue → Bool
+is_asked_of asked w = holds asked w.kind
 
 -- the watchers that are asked for took in these records, and the others none
-unfoldable pub fed_of : ℕ → List PhaseRecord → WatcherValue → WatcherValue
+unfoldable pub fed_of : WatchSet → List PhaseRecord → WatcherValue → WatcherValue
 fed_of asked rs w = if is_asked_of asked w then fed_with rs w else w
 
 -- of those that are asked for the first `count` took in all of these records, and those behind them the first of these alone
-pub record AreFedInPart (asked : ℕ) (rs : List PhaseRecord) (before after : List WatcherValue) : Type 0 where
+pub record AreFedInPart (asked : WatchSet) (rs : List PhaseRecord) (before after : List WatcherValue) : Type 0 where
   pub count : ℕ
   pub first : List PhaseRecord
   pub more : List PhaseRecord

@@ -1,20 +1,26 @@
 //! Watchers in a list.
 
-ghost use Rattle.std.specs.Prelude.{◌≡◌, ℕ, false, List, ◌++◌, [], ◌∷◌, map, take, drop, OnOk, OnErr};
+ghost use Rattle.std.specs.Prelude.{◌≡◌, ◌<◌, ℕ, false, List, ◌++◌, [], ◌∷◌, length, map, take, drop, OnOk, OnErr};
 ghost use Rattle.sil_watch.specs.Watching.{fed_of, fed_with, is_asked_of};
 ghost use Rattle.sil_watch.specs.declared.record.PhaseRecord.{PhaseRecord};
 
+use crate::kind::WatchSet;
 use crate::record::PhaseRecord;
 use crate::watcher::Watcher;
 use std::alloc::AllocError;
 
-/// Feeds a record to the watchers whose kind shares a bit with `asked`, in the order of the list.
+/// Feeds a record to the watchers whose kind is asked for, in the order of the list.
 ///
-/// If memory is wanting to one of them, those before it have taken in the record, and no other has.
-pub fn feed(all: &mut [Box<dyn Watcher>], asked: u8, rec: &PhaseRecord) -> Result<(), AllocError>
+/// If memory runs out at one of them, those before it have taken in the record, and no other has.
+pub fn feed(
+    all: &mut [Box<dyn Watcher>],
+    asked: WatchSet,
+    rec: &PhaseRecord,
+) -> Result<(), AllocError>
     ensures fed { OnOk result (map (λ w. watcher_value w) all.new ≡ map (fed_of asked (rec.now ∷ [])) (map (λ w. watcher_value w) all.old)) }
     ensures refused { OnErr result ((count : ℕ) × (map (λ w. watcher_value w) all.new
-        ≡ map (fed_of asked (rec.now ∷ [])) (take count (map (λ w. watcher_value w) all.old)) ++ drop count (map (λ w. watcher_value w) all.old))) }
+        ≡ map (fed_of asked (rec.now ∷ [])) (take count (map (λ w. watcher_value w) all.old)) ++ drop count (map (λ w. watcher_value w) all.old))
+        × (count < length all.old)) }
 {
     for i in 0..all.len() {
         offer(&mut all[i], asked, rec)?;
@@ -22,9 +28,9 @@ pub fn feed(all: &mut [Box<dyn Watcher>], asked: u8, rec: &PhaseRecord) -> Resul
     Ok(())
 }
 
-/// Feeds a record to a watcher whose kind shares a bit with `asked`.
+/// Feeds a record to a watcher, if its kind is asked for.
 #[tactic(auto, unfolding(crate::specs::Watching::fed_of))]
-fn offer(w: &mut Box<dyn Watcher>, asked: u8, rec: &PhaseRecord) -> Result<(), AllocError>
+fn offer(w: &mut Box<dyn Watcher>, asked: WatchSet, rec: &PhaseRecord) -> Result<(), AllocError>
     ensures fed { OnOk result (watcher_value w.new ≡ fed_of asked (rec.now ∷ []) (watcher_value w.old)) }
     ensures refused { OnErr result (watcher_value w.new ≡ watcher_value w.old) }
 {
@@ -34,11 +40,11 @@ fn offer(w: &mut Box<dyn Watcher>, asked: u8, rec: &PhaseRecord) -> Result<(), A
     Ok(())
 }
 
-/// Whether the kind of a watcher shares a bit with `asked`.
-pub fn is_asked(w: &Box<dyn Watcher>, asked: u8) -> bool
+/// Whether the kind of a watcher is asked for.
+pub fn is_asked(w: &Box<dyn Watcher>, asked: WatchSet) -> bool
     ensures { result ≡ is_asked_of asked (watcher_value w.now) }
 {
-    w.kind() & asked != 0
+    asked.contains(w.kind())
 }
 
 /// Lets a watcher take in a record.
@@ -50,7 +56,7 @@ fn take_in(w: &mut Box<dyn Watcher>, rec: &PhaseRecord) -> Result<(), AllocError
 }
 
 /// Whether a watcher of a list is asked for.
-pub fn any_asked(all: &[Box<dyn Watcher>], asked: u8) -> bool
+pub fn any_asked(all: &[Box<dyn Watcher>], asked: WatchSet) -> bool
     ensures none { result ≡ false → (rs : List PhaseRecord) → map (fed_of asked rs) (map (λ w. watcher_value w) all.now) ≡ map (λ w. watcher_value w) all.now }
 {
     for i in 0..all.len() {

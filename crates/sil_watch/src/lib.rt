@@ -5,15 +5,18 @@
 //! - [`Watcher`] is what may be fed such records. A watcher has a state, a list of whole numbers; its rule makes the next state
 //!   of a state and a record; its lines are those of its state.
 //! - [`Series`] keeps all records, and has a line for each.
+//! - [`WatcherKind`] and [`WatchSet`] say which watchers are asked for.
 #![tactic(auto)]
 
 mod feeding;
+mod kind;
 mod putting;
 mod record;
 mod series;
 mod watcher;
 
 pub use feeding::{any_asked, feed, is_asked};
+pub use kind::{WatchSet, WatcherKind};
 pub use putting::put_lines;
 pub use record::PhaseRecord;
 pub use series::{Series, lines_fix_records};

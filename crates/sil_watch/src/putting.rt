@@ -5,12 +5,17 @@ ghost use Rattle.sil_watch.specs.Lines.{IsLineAt, lines_of_all, lines_of_asked, 
 ghost use Rattle.sil_watch.specs.Watching.{WatcherValue};
 
 use crate::feeding::is_asked;
+use crate::kind::WatchSet;
 use crate::watcher::Watcher;
 use std::alloc::AllocError;
 
-/// Appends the lines of the watchers whose kind shares a bit with `asked`, in the order of the list, and of each all of its
-/// lines in their order. Each is ended by a line feed. 2^64 lines of one watcher are want of memory.
-pub fn put_lines(all: &[Box<dyn Watcher>], asked: u8, out: &mut Vec<u8>) -> Result<(), AllocError>
+/// Appends the lines of the watchers whose kind is asked for, in the order of the list, and of each all of its lines in their
+/// order. Each is ended by a line feed. 2^64 lines of one watcher are more than memory holds.
+pub fn put_lines(
+    all: &[Box<dyn Watcher>],
+    asked: WatchSet,
+    out: &mut Vec<u8>,
+) -> Result<(), AllocError>
     ensures { OnOk result (out.new.items ≡ out.old.items ++ lines_of_all asked (map (λ w. watcher_value w) all.now)) }
 {
     for i in 0..all.len() {
@@ -19,9 +24,9 @@ pub fn put_lines(all: &[Box<dyn Watcher>], asked: u8, out: &mut Vec<u8>) -> Resu
     Ok(())
 }
 
-/// Appends the lines of a watcher, if its kind shares a bit with `asked`.
+/// Appends the lines of a watcher, if its kind is asked for.
 #[tactic(auto, unfolding(crate::specs::Lines::lines_of_asked))]
-fn put_asked(w: &Box<dyn Watcher>, asked: u8, out: &mut Vec<u8>) -> Result<(), AllocError>
+fn put_asked(w: &Box<dyn Watcher>, asked: WatchSet, out: &mut Vec<u8>) -> Result<(), AllocError>
     ensures { OnOk result (out.new.items ≡ out.old.items ++ lines_of_asked asked (watcher_value w.now)) }
 {
     if is_asked(w, asked) {

@@ -6,6 +6,7 @@ ghost use Rattle.sil_watch.specs.Lines.{interval_text, line_of_record};
 ghost use Rattle.sil_watch.specs.Series.{series_value};
 ghost use Rattle.sil_watch.specs.Watching.{fed_with};
 
+use crate::kind::WatcherKind;
 use crate::record::PhaseRecord;
 use crate::watcher::Watcher;
 use sil_model::Decimal18;
@@ -13,7 +14,7 @@ use sil_text::put_decimal18;
 use std::alloc::{AllocError, Global};
 use std::marker::Model;
 
-/// The records of all phases, one line each. Its kind is 1.
+/// The records of all phases, one line each.
 ///
 /// Contracts see it as the list of its records.
 #[derive(Drop)]
@@ -32,9 +33,6 @@ impl Model for Series {
 }
 
 impl Series {
-    /// The kind of a series.
-    const KIND: u8 = 1;
-
     /// A series without records.
     pub fn new(alloc: Global) -> Series
         ensures { result ≡ [] }
@@ -49,10 +47,8 @@ impl Series {
 impl Watcher for Series {
     ghost watcher_value = { λ s. series_value s };
 
-    fn kind(&self) -> u8
-        ensures { result ≡ 1 }
-    {
-        Series::KIND
+    fn kind(&self) -> WatcherKind {
+        WatcherKind::Series
     }
 
     fn phase(&mut self, rec: &PhaseRecord) -> Result<(), AllocError>

@@ -4,6 +4,7 @@ ghost use Rattle.std.specs.Prelude.{◌≡◌, [], ◌∷◌, OnOk, OnErr, IfOk}
 ghost use Rattle.sil_watch.specs.Lines.{IsLineAt};
 ghost use Rattle.sil_watch.specs.Watching.{WatcherValue, fed_with};
 
+use crate::kind::WatcherKind;
 use crate::record::PhaseRecord;
 use std::alloc::AllocError;
 
@@ -14,8 +15,8 @@ use std::alloc::AllocError;
 pub trait Watcher: Drop {
     ghost watcher_value: { Self → WatcherValue };
 
-    /// Its kind, a bit pattern: it is asked for by any of its bits.
-    fn kind(&self) -> u8
+    /// Its kind, by which it is asked for.
+    fn kind(&self) -> WatcherKind
         ensures { result ≡ (watcher_value self.now).kind };
 
     /// Takes in a record. If memory is wanting, the watcher is as before.

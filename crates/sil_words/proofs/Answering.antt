@@ -1,68 +1,44 @@
 -- What is answered to the words after a verb, from what the matches tell.
-use Rattle.std.proofs.Common.{◌≡◌, ◌∙◌, refl, sym, ap, ap₂, subst, ◌-◌, ◌≤◌, true, false, if◌then◌else◌, List, [], ◌∷◌, Some, codes, Result, Ok, Err}
+use Rattle.std.proofs.Common.{◌≡◌, ◌∙◌, sym, ap, ap₂, subst, ◌-◌, ◌≤◌, true, false, List, [], ◌∷◌, Some, Result, Ok, Err}
 use Rattle.std.proofs.Common.{IfErr, IsErrAnd, String, string_bytes, map, get_or, length, take, drop, take_all, arith}
 use Rattle.std.specs.Option.{option_map_or}
-use Rattle.clap.specs.Matches.{found_of}
 use Rattle.clap.specs.declared.parser.matches.ArgMatches.{ArgMatches}
 use Rattle.sil_words.specs.declared.ask.Ask.{Ask}
 use Rattle.verb_table.specs.Table.{IsCalled, Row, Text, row_named}
-use Rattle.sil_words.specs.Language.{Asks, AsksAfter, IsCall, IsReading, Reading, ask_of, is_positional, mode_asked, name_asked, need_asked, number_asked}
-use Rattle.sil_words.specs.Splitting.{Tells, TellsOf, are_taken, givens_of, is_from_words, position, source_of, told_by}
-use Rattle.sil_words.proofs.Views.{views}
-use Rattle.sil_words.proofs.Accepts.{pieces_split, reading_splits, reading_word, split_reads}
-use Rattle.sil_words.proofs.Sound.{reading_taken, same_taken, sound}
+use Rattle.sil_words.specs.Language.{Asks, AsksAfter, IsCall, IsReading, Reading, ask_of, is_positional, value_of}
+use Rattle.sil_words.specs.Splitting.{TellsOf, are_taken, givens_of, position, told_by}
+use Rattle.sil_words.proofs.Accepts.{reading_splits, reading_word, split_reads}
+use Rattle.sil_words.proofs.Asked.{ask_is, ask_told}
+use Rattle.sil_words.proofs.Sound.{reading_taken, sound}
 
 module _ (row : Row) (called : IsCalled row) (words : List Text) (m : ArgMatches) (t : TellsOf row.choices words m) where
-  tells : (r : Reading) → IsReading row words r → Tells row.choices m (givens_of r)
-  tells r h = t.1 r (reading_splits row (sound row called).table words r h)
+  tells : (r : Reading) → IsReading row words r → told_by m ≡ value_of (givens_of r)
+  tells r h = λ j name. t.1 r (reading_splits row (sound row called).table words r h) name j
 
   -- ---- refusals
 
   pub value_refused : are_taken row.choices (told_by m) ≡ false → (r : Reading) → IsReading row words r → ⊥
   value_refused bad r h =
-      let good : are_taken row.choices (told_by m) ≡ true = same_taken row.choices m (givens_of r) (tells r h) (sound row called)
-      ∙ reading_taken row (sound row called) words r h in
+      let good : are_taken row.choices (told_by m) ≡ true = ap (are_taken row.choices) (tells r h) ∙ reading_taken row (sound row called) words r h in
       cc
 
   pub word_refused : option_map_or (is_positional row.positional) (told_by m position) false ≡ false → (r : Reading) → IsReading row words r → ⊥
   word_refused bad r h =
-      let same = (tells r h).value position (sound row called).position in
       let good : option_map_or (is_positional row.positional) (told_by m position) false ≡ true =
-      ap (λ o. option_map_or (is_positional row.positional) o false) same ∙ reading_word row (sound row called).table words r h in
+      ap (λ told. option_map_or (is_positional row.positional) (told position) false) (tells r h) ∙ reading_word row (sound row called).table words r h in
       cc
 
   -- ---- the answer
 
-  pub record IsTold (a : Ask) : Type 0 where
-    pub verb : a.verb ≡ row.verb
-    pub name : a.name ≡ name_asked row.positional (told_by m position)
-    pub number : a.number ≡ number_asked row.positional (told_by m position)
-    pub need : a.need ≡ need_asked (told_by m (codes "need"))
-    pub mode : a.mode ≡ mode_asked (told_by m (codes "mode"))
-    pub watch : a.watch ≡ (if is_from_words (source_of (found_of m) (codes "series")) then 1 else 0)
-
-  is_ask : (a : Ask) (r : Reading) → IsReading row words r → IsTold a → a ≡ ask_of row r
-  is_ask a r k h =
-      let s = tells r k in
-      let able = sound row called in
-      let seen = views row.choices able.table r (pieces_split row.choices r.pieces k.pieces) in
-      let word = s.value position able.position ∙ seen.word in
-      let name = h.name ∙ ap (name_asked row.positional) word in
-      let number = h.number ∙ ap (number_asked row.positional) word in
-      let need = h.need ∙ ap need_asked (s.value (codes "need") able.need ∙ seen.value (codes "need") refl) in
-      let mode = h.mode ∙ ap mode_asked (s.value (codes "mode") able.mode ∙ seen.value (codes "mode") refl) in
-      let watch = h.watch ∙ ap (λ b. if b then 1 else 0) (s.stands (codes "series") ∙ seen.given (codes "series") refl) in
-      λ i. record { verb = h.verb i; name = name i; number = number i; need = need i; mode = mode i; watch = watch i }
-
   pub answered : are_taken row.choices (told_by m) ≡ true → option_map_or (is_positional row.positional) (told_by m position) false ≡ true → (a : Ask)
-      → IsTold a → AsksAfter row words a
-  answered taken w a h =
+      → a ≡ ask_told row (told_by m) → AsksAfter row words a
+  answered taken w a is =
       let r = t.0.0 in
-      let s = t.1 r t.0.1 in
+      let told : told_by m ≡ value_of (givens_of r) = λ j name. t.1 r t.0.1 name j in
       let able = sound row called in
-      let values = sym (same_taken row.choices m (givens_of r) s able) ∙ taken in
-      let word_ok = ap (λ q. option_map_or (is_positional row.positional) q false) (sym (s.value position able.position)) ∙ w in
-      ((r, split_reads row able.table words r able.dash t.0.1 values word_ok), λ q k. is_ask a q k h)
+      let values = ap (are_taken row.choices) (sym told) ∙ taken in
+      let word_ok = ap (λ given. option_map_or (is_positional row.positional) (given position) false) (sym told) ∙ w in
+      ((r, split_reads row able.table words r able.dash t.0.1 values word_ok), λ q k. is ∙ ap (ask_told row) (tells q k) ∙ sym (ask_is row called words q k))
 
 -- ---- with the verb
 

@@ -1,5 +1,5 @@
 -- What `clap`'s contract says of the words, in the terms of the pieces.
-use Rattle.std.proofs.Common.{◌≡◌, ◌∙◌, refl, sym, ap, subst, Bool, true, false, cond, List, [], ◌∷◌, map, find, fold, Option, Some, None, option_map}
+use Rattle.std.proofs.Common.{◌≡◌, ◌∙◌, refl, sym, ap, ap₂, subst, Bool, true, false, cond, List, [], ◌∷◌, map, find, fold, Option, Some, None, option_map}
 use Rattle.std.proofs.Common.{String, string_bytes, inl, inr}
 use Rattle.std.specs.Prelude.{option_and_then}
 use Rattle.std.specs.Option.{option_map_or}
@@ -7,7 +7,7 @@ use Rattle.std.specs.Str.{bytes_eq}
 use Rattle.std.proofs.lemmas.Bool.{and_parts, and_from}
 use Rattle.clap.specs.Facts.{Entry}
 use Rattle.clap.specs.Matches.{found_of}
-use Rattle.clap.specs.Walk.{Row, first_of, nothing_held, row_of as row_of_entry, rows_of, with_default}
+use Rattle.clap.specs.Walk.{Row, nothing_held, row_of as row_of_entry, rows_of, with_default}
 use Rattle.clap.specs.Simple.{App, HasMatchesOf, matches_of}
 use Rattle.clap.specs.Faults.{fault_of, is_simple_and_free, level_fault}
 use Rattle.clap.specs.Kinds.{HasKind, IsAmong, Kinds}
@@ -28,7 +28,7 @@ use Rattle.sil_words.proofs.Rows.{row_for}
 use Rattle.sil_words.proofs.Passing.{IsTable, Passes, WalksTo, after_fault}
 use Rattle.sil_words.proofs.Splits.{AreTexts, accepted}
 use Rattle.sil_words.proofs.Walks.{walks}
-use Rattle.sil_words.proofs.Givens.{after_is, ends_stands, ends_value, extended_is, fresh_is}
+use Rattle.sil_words.proofs.Givens.{after_is, ends_value, extended_is, fresh_is, told_in}
 
 passes_from : (cs : List Choice) (words : List Text) → level_fault (shape (built_rules cs)) [] nothing_held words false [] ≡ []
     → Passes cs (between [] None 1 false) words
@@ -90,16 +90,12 @@ source_rows f name = by (find (λ e. bytes_eq e.0.now name) f.entries.items)
 
 -- and their matches tell what is given
 pub tells_split : (cs : List Choice) → IsTable cs → (words : List Text) (m : ArgMatches) → HasMatchesOf (command_of cs) words m → (r : Reading)
-    → IsSplit cs words r → Tells cs m (givens_of r)
-tells_split cs t words m h r s =
+    → IsSplit cs words r → Tells m (givens_of r)
+tells_split cs t words m h r s name =
     let simple = and_parts _ _ (simple_command cs) in
     let rows = (h simple.0).0 ∙ matches_split cs t words r s in
-    record {
-      value = λ name free. first_value-rows (found_of m) name ∙ ap (first_of name) rows ∙ ends_value cs (givens_of r) name free;
-      stands = λ name. source_rows (found_of m) name
-          ∙ ap (λ (q : List Row). option_map_or (λ r. is_from_words r.source) (find (λ r. bytes_eq r.id name) q) false) rows
-          ∙ ends_stands cs (givens_of r) name;
-    }
+    ap₂ (λ b v. cond b v None) (source_rows (found_of m) name) (first_value-rows (found_of m) name) ∙ ap (told_in name) rows
+    ∙ ends_value cs (givens_of r) name
 
 -- ---- the program's call
 

@@ -1,11 +1,10 @@
 -- The rows at the end of a parse tell what was given, and the checks after the walk are that what is required was given.
-use Rattle.std.proofs.Common.{◌≡◌, ◌∙◌, refl, sym, ap, ap₂, Bool, true, false, not, cond, ◌&&◌, ◌||◌, List, [], ◌∷◌, ◌++◌, map, find, fold, Some}
+use Rattle.std.proofs.Common.{◌≡◌, ◌∙◌, refl, sym, ap, ap₂, Bool, true, false, not, cond, ◌&&◌, ◌||◌, List, [], ◌∷◌, ◌++◌, map, find, fold, Option, Some}
 use Rattle.std.proofs.Common.{None, option_map, codes, slice_get, append_assoc, append-nil}
 use Rattle.std.specs.Prelude.{option_and_then}
 use Rattle.std.specs.List.{list_all, list_any}
 use Rattle.std.specs.Option.{option_map_or}
 use Rattle.std.specs.Str.{bytes_eq}
-use Rattle.std.proofs.lemmas.Bool.{and_parts, not-true}
 use Rattle.std.proofs.lemmas.Slice.Eq.{bytes_eq-Decides}
 use Rattle.clap.specs.Facts.{explicit_source}
 use Rattle.clap.specs.Walk.{Row, Rule, first_of, has_row, more_values, with_default}
@@ -18,7 +17,7 @@ use Rattle.clap.specs.declared.parser.matches.ValueSource.TheVariants.{DefaultVa
 use Rattle.verb_table.specs.Table.{Choice, Text, is_flag}
 use Rattle.sil_words.specs.Language.{Given, is_given, is_once, value_of}
 use Rattle.sil_words.specs.Splitting.{position}
-use Rattle.sil_words.specs.Splitting.{has_no_flag, is_from_words}
+use Rattle.sil_words.specs.Splitting.{is_from_words}
 use Rattle.sil_words.proofs.Rules.{built_rules, chosen, chosen_of}
 use Rattle.sil_words.proofs.Rows.{at_row_none, has_row_more, more, row_for}
 use Rattle.sil_words.proofs.Passing.{after_fault, extended, fresh}
@@ -43,12 +42,17 @@ given_rows test each name (g ∷ gs) = by (bytes_eq g.name name) (given_rows tes
     by true e = each g
     by false e = e
 
-value_rows : (name : Text) (gs : List Given) → first_of name (map row_for gs) ≡ value_of gs name
+-- the value that stands in the words under a name
+abbrev pub told_in : Text → List Row → Option Text
+told_in name rows = cond (first_row (λ r. is_from_words r.source) name rows) (first_of name rows) None
+
+value_rows : (name : Text) (gs : List Given) → told_in name (map row_for gs) ≡ value_of gs name
 value_rows name [] = refl
 value_rows name (g ∷ gs) = by (bytes_eq g.name name) (value_rows name gs)
   where
-    by : (b : Bool) → first_of name (map row_for gs) ≡ value_of gs name
-        → option_and_then (λ r. slice_get r.values 0) (cond b (Some (row_for g)) (find (λ r. bytes_eq r.id name) (map row_for gs)))
+    by : (b : Bool) → told_in name (map row_for gs) ≡ value_of gs name
+        → (let found = cond b (Some (row_for g)) (find (λ r. bytes_eq r.id name) (map row_for gs)) in
+        cond (option_map_or (λ r. is_from_words r.source) found false) (option_and_then (λ r. slice_get r.values 0) found) None)
         ≡ option_map (λ h. h.value) (cond b (Some g) (find (λ h. bytes_eq h.name name) gs))
     by true e = refl
     by false e = e
@@ -120,42 +124,36 @@ no_default true rows = refl
 no_default false rows = refl
 
 -- what defaults leave as it is, of the rows
-module _ {X : Type 0} (view : List Row → X) (name : Text) (keeps : (rows : List Row) → view (rows ++ default_row name ∷ []) ≡ view rows) where
-  one_default : (r : Bool) (rows : List Row) → view (with_default rows (chosen name r true)) ≡ view rows
-  one_default r rows = by (has_row name rows) refl
+abbrev Keeps : {X : Type 0} → (List Row → X) → Type 0
+Keeps view = (name : Text) (rows : List Row) → view (rows ++ default_row name ∷ []) ≡ view rows
+
+module _ {X : Type 0} (view : List Row → X) (keeps : Keeps view) where
+  one_default : (name : Text) (r : Bool) (rows : List Row) → view (with_default rows (chosen name r true)) ≡ view rows
+  one_default name r rows = by (has_row name rows) refl
     where
       by : (b : Bool) → has_row name rows ≡ b → view (with_default rows (chosen name r true)) ≡ view rows
       by true e = ap view (default_kept name r rows e)
-      by false e = ap view (default_added name r rows e) ∙ keeps rows
+      by false e = ap view (default_added name r rows e) ∙ keeps name rows
 
-abbrev Keeps : {X : Type 0} → (List Row → X) → Text → Type 0
-Keeps view name = (rows : List Row) → view (rows ++ default_row name ∷ []) ≡ view rows
+  kept_by : (c : Choice) (rows : List Row) → view (with_default rows (chosen_of c)) ≡ view rows
+  kept_by c rows = by (is_flag c)
+    where
+      by : (b : Bool) → view (with_default rows (chosen c.name c.is_required b)) ≡ view rows
+      by true = one_default c.name c.is_required rows
+      by false = ap view (no_default (has_row c.name rows) rows)
 
-kept_by : {X : Type 0} (view : List Row → X) (c : Choice) → ((is_flag c) ≡ true → Keeps view c.name) → (rows : List Row)
-    → view (with_default rows (chosen_of c)) ≡ view rows
-kept_by view c keeps rows = by (is_flag c) refl
-  where
-    by : (b : Bool) → (is_flag c) ≡ b → view (with_default rows (chosen c.name c.is_required b)) ≡ view rows
-    by true e = one_default view c.name (keeps e) c.is_required rows
-    by false e = ap view (no_default (has_row c.name rows) rows)
+  defaults_keep : (cs : List Choice) (rows : List Row) → view (fold with_default rows (built_rules cs)) ≡ view rows
+  defaults_keep [] rows = ap view (no_default (has_row position rows) rows)
+  defaults_keep (c ∷ cs) rows = defaults_keep cs (with_default rows (chosen_of c)) ∙ kept_by c rows
 
-abbrev AllKeep : {X : Type 0} → (List Row → X) → List Choice → Type 0
-AllKeep view [] = Unit {0}
-AllKeep view (c ∷ cs) = ((is_flag c) ≡ true → Keeps view c.name) × AllKeep view cs
-
-defaults_keep : {X : Type 0} (view : List Row → X) (cs : List Choice) → AllKeep view cs → (rows : List Row)
-    → view (fold with_default rows (built_rules cs)) ≡ view rows
-defaults_keep view [] k rows = ap view (no_default (has_row position rows) rows)
-defaults_keep view (c ∷ cs) k rows = defaults_keep view cs k.1 (with_default rows (chosen_of c)) ∙ kept_by view c k.0 rows
-
--- a row of another name is not found; a default is no gift
-push_keeps : (test : Row → Bool) (name : Text) (other : Text) → test (default_row other) ≡ false → Keeps (first_row test name) other
-push_keeps test name other hidden [] = by (bytes_eq other name)
+-- a default is no gift
+test_keeps : (test : Row → Bool) (name : Text) → ((other : Text) → test (default_row other) ≡ false) → Keeps (first_row test name)
+test_keeps test name hidden other [] = by (bytes_eq other name)
   where
     by : (b : Bool) → option_map_or test (cond b (Some (default_row other)) None) false ≡ false
-    by true = hidden
+    by true = hidden other
     by false = refl
-push_keeps test name other hidden (r ∷ rows) = by (bytes_eq r.id name) (push_keeps test name other hidden rows)
+test_keeps test name hidden other (r ∷ rows) = by (bytes_eq r.id name) (test_keeps test name hidden other rows)
   where
     by : (b : Bool) → first_row test name (rows ++ default_row other ∷ []) ≡ first_row test name rows
         → option_map_or test (cond b (Some r) (find (λ q. bytes_eq q.id name) (rows ++ default_row other ∷ []))) false
@@ -163,48 +161,34 @@ push_keeps test name other hidden (r ∷ rows) = by (bytes_eq r.id name) (push_k
     by true e = refl
     by false e = e
 
-all_push_keep : (test : Row → Bool) (name : Text) → ((other : Text) → test (default_row other) ≡ false) → (cs : List Choice) → AllKeep (first_row test name) cs
-all_push_keep test name hidden [] = tt
-all_push_keep test name hidden (c ∷ cs) = (λ f. push_keeps test name c.name (hidden c.name), all_push_keep test name hidden cs)
-
-value_keeps : (name other : Text) → bytes_eq other name ≡ false → Keeps (first_of name) other
-value_keeps name other differs [] = rw differs refl
-value_keeps name other differs (r ∷ rows) = by (bytes_eq r.id name) (value_keeps name other differs rows)
+-- and its value stands in no words
+value_keeps : (name : Text) → Keeps (told_in name)
+value_keeps name other [] = by (bytes_eq other name)
   where
-    by : (b : Bool) → first_of name (rows ++ default_row other ∷ []) ≡ first_of name rows
-        → option_and_then (λ q. slice_get q.values 0) (cond b (Some r) (find (λ q. bytes_eq q.id name) (rows ++ default_row other ∷ [])))
-        ≡ option_and_then (λ q. slice_get q.values 0) (cond b (Some r) (find (λ q. bytes_eq q.id name) rows))
+    by : (b : Bool) → (let found = cond b (Some (default_row other)) None in
+        cond (option_map_or (λ r. is_from_words r.source) found false) (option_and_then (λ r. slice_get r.values 0) found) None) ≡ None
+    by true = refl
+    by false = refl
+value_keeps name other (r ∷ rows) = by (bytes_eq r.id name) (value_keeps name other rows)
+  where
+    by : (b : Bool) → told_in name (rows ++ default_row other ∷ []) ≡ told_in name rows
+        → (let found = cond b (Some r) (find (λ q. bytes_eq q.id name) (rows ++ default_row other ∷ [])) in
+        cond (option_map_or (λ q. is_from_words q.source) found false) (option_and_then (λ q. slice_get q.values 0) found) None)
+        ≡ (let found = cond b (Some r) (find (λ q. bytes_eq q.id name) rows) in
+        cond (option_map_or (λ q. is_from_words q.source) found false) (option_and_then (λ q. slice_get q.values 0) found) None)
     by true e = refl
     by false e = e
-
-all_values_keep : (name : Text) (cs : List Choice) → has_no_flag cs name ≡ true → AllKeep (first_of name) cs
-all_values_keep name [] h = tt
-all_values_keep name (c ∷ cs) h =
-    let parts = and_parts _ _ h in
-    (λ f. value_keeps name c.name (by (is_flag c) (bytes_eq c.name name) f parts.0), all_values_keep name cs parts.1)
-  where
-    by : (a b : Bool) → a ≡ true → (not a || not b) ≡ true → b ≡ false
-    by a b f e =
-        let g = rw f at e in
-        not-true b g
 
 -- ---- what the rows tell at the end
 
 pub ends_given : (cs : List Choice) (gs : List Given) (name : Text)
     → takes.is_given name (fold with_default (map row_for gs) (built_rules cs)) ≡ is_given gs name
 ends_given cs gs name =
-    defaults_keep (first_row (λ r. explicit_source r.source) name) cs (all_push_keep (λ r. explicit_source r.source) name (λ other. refl) cs) (map row_for gs)
-    ∙ given_rows (λ r. explicit_source r.source) (λ g. refl) name gs
+    let test : Row → Bool = λ r. explicit_source r.source in
+    defaults_keep (first_row test name) (test_keeps test name (λ other. refl)) cs (map row_for gs) ∙ given_rows test (λ g. refl) name gs
 
-pub ends_stands : (cs : List Choice) (gs : List Given) (name : Text)
-    → first_row (λ r. is_from_words r.source) name (fold with_default (map row_for gs) (built_rules cs)) ≡ is_given gs name
-ends_stands cs gs name =
-    defaults_keep (first_row (λ r. is_from_words r.source) name) cs (all_push_keep (λ r. is_from_words r.source) name (λ other. refl) cs) (map row_for gs)
-    ∙ given_rows (λ r. is_from_words r.source) (λ g. refl) name gs
-
-pub ends_value : (cs : List Choice) (gs : List Given) (name : Text) → has_no_flag cs name ≡ true
-    → first_of name (fold with_default (map row_for gs) (built_rules cs)) ≡ value_of gs name
-ends_value cs gs name h = defaults_keep (first_of name) cs (all_values_keep name cs h) (map row_for gs) ∙ value_rows name gs
+pub ends_value : (cs : List Choice) (gs : List Given) (name : Text) → told_in name (fold with_default (map row_for gs) (built_rules cs)) ≡ value_of gs name
+ends_value cs gs name = defaults_keep (told_in name) (value_keeps name) cs (map row_for gs) ∙ value_rows name gs
 
 -- ---- the checks after the walk
 

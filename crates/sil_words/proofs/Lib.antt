@@ -12,5 +12,6 @@ pub mod Contract
 pub mod Views
 pub mod Accepts
 pub mod Sound
+pub mod Asked
 pub mod Answering
 pub mod OneWay

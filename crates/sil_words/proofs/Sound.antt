@@ -1,13 +1,12 @@
 -- The options of each verb of the table can be told apart, and so a split whose values are taken is a reading.
-use Rattle.std.proofs.Common.{codes, ◌≡◌, ◌∙◌, refl, sym, ap, ap₂, Bool, true, false, not, cond, ◌&&◌, ◌||◌, List, [], ◌∷◌, Option, Some, None, find, is_some}
+use Rattle.std.proofs.Common.{◌≡◌, ◌∙◌, refl, sym, ap, Bool, true, false, not, cond, ◌&&◌, ◌||◌, List, [], ◌∷◌, Option, Some, None, find, is_some}
 use Rattle.std.specs.List.{list_all, list_any}
 use Rattle.std.specs.Option.{option_map_or}
 use Rattle.std.specs.Str.{bytes_eq}
 use Rattle.std.proofs.lemmas.Bool.{and_parts, and_from, not-true}
-use Rattle.clap.specs.declared.parser.matches.ArgMatches.{ArgMatches}
 use Rattle.verb_table.specs.Table.{Choice, IsCalled, Row, Text, accepts, is_flag, verb_table}
-use Rattle.sil_words.specs.Language.{Given, IsReading, Reading, choice_named, value_of}
-use Rattle.sil_words.specs.Splitting.{Tells, are_taken, givens_of, has_no_flag, position, takes_told, told_by}
+use Rattle.sil_words.specs.Language.{IsReading, Reading, choice_named, value_of}
+use Rattle.sil_words.specs.Splitting.{are_taken, givens_of, position, takes_told}
 use Rattle.sil_words.proofs.Lexing.{is_name}
 use Rattle.sil_words.proofs.Passing.{IsTable, same_as_itself, same_text}
 use Rattle.sil_words.proofs.Accepts.{reading_accepts, takes_no_dash}
@@ -19,16 +18,8 @@ abbrev are_apart : List Choice → Bool
 are_apart [] = true
 are_apart (c ∷ cs) = not (list_any (λ d. bytes_eq d.name c.name) cs) && are_apart cs
 
--- an option that takes values has no name of a flag
-abbrev are_free : List Choice → List Choice → Bool
-are_free cs ds = list_all (λ c. is_flag c || has_no_flag cs c.name) ds
-
-abbrev is_free : List Choice → Bool
-is_free cs = has_no_flag cs position && (has_no_flag cs (codes "need") && has_no_flag cs (codes "mode"))
-
 abbrev is_sound : List Choice → Bool
-is_sound cs = not (is_some (choice_named cs position)) &&
-    (list_all (λ c. is_name c.name) cs && (are_free cs cs && (is_free cs && (takes_no_dash cs && are_apart cs))))
+is_sound cs = not (is_some (choice_named cs position)) && (list_all (λ c. is_name c.name) cs && (takes_no_dash cs && are_apart cs))
 
 all_sound : list_all (λ row. is_sound row.choices) verb_table ≡ true
 unfolding verb_table
@@ -36,10 +27,6 @@ all_sound = refl
 
 pub record IsSound (cs : List Choice) : Type 0 where
   pub table : IsTable cs
-  pub free : are_free cs cs ≡ true
-  pub position : has_no_flag cs position ≡ true
-  pub need : has_no_flag cs (codes "need") ≡ true
-  pub mode : has_no_flag cs (codes "mode") ≡ true
   pub dash : takes_no_dash cs ≡ true
   pub apart : are_apart cs ≡ true
 
@@ -61,20 +48,8 @@ sound row called =
     let all = found_passes (λ r. is_sound r.choices) (λ r. bytes_eq r.word called.0) verb_table row called.1 all_sound in
     let unplaced = and_parts (not (is_some (choice_named cs position))) _ all in
     let named = and_parts (list_all (λ c. is_name c.name) cs) _ unplaced.1 in
-    let free = and_parts (are_free cs cs) _ named.1 in
-    let names = and_parts (is_free cs) _ free.1 in
-    let parts = and_parts (has_no_flag cs position) _ names.0 in
-    let options = and_parts (has_no_flag cs (codes "need")) _ parts.1 in
-    let last = and_parts (takes_no_dash cs) _ names.1 in
-    record {
-      table = record { unplaced = none_is _ unplaced.0; named = named.0 };
-      free = free.0;
-      position = parts.0;
-      need = options.0;
-      mode = options.1;
-      dash = last.0;
-      apart = last.1;
-    }
+    let last = and_parts (takes_no_dash cs) _ named.1 in
+    record { table = record { unplaced = none_is _ unplaced.0; named = named.0 }; dash = last.0; apart = last.1 }
 
 -- ---- each option is the first of its name
 
@@ -113,23 +88,3 @@ reading_taken row s words r h = passes_each (λ c. takes_told c (value_of (given
         → (b || option_map_or (accepts c.values) (value_of (givens_of r) c.name) true) ≡ true
     by c named true e = refl
     by c named false e = reading_accepts row s.table words r h c.name c named e
-
--- ---- what matches tell is taken where what is given is
-
-module _ (cs : List Choice) (m : ArgMatches) (gs : List Given) (tells : Tells cs m gs) where
-  one_same : (c : Choice) → (is_flag c || has_no_flag cs c.name) ≡ true → takes_told c (told_by m c.name) ≡ takes_told c (value_of gs c.name)
-  one_same c h = by (is_flag c) h
-    where
-      by : (b : Bool) → (b || has_no_flag cs c.name) ≡ true
-          → (b || option_map_or (accepts c.values) (told_by m c.name) true) ≡ (b || option_map_or (accepts c.values) (value_of gs c.name) true)
-      by true h = refl
-      by false h = ap (λ o. option_map_or (accepts c.values) o true) (tells.value c.name h)
-
-  each_same : (ds : List Choice) → are_free cs ds ≡ true → are_taken ds (told_by m) ≡ are_taken ds (value_of gs)
-  each_same [] h = refl
-  each_same (d ∷ ds) h =
-      let parts = and_parts (is_flag d || has_no_flag cs d.name) _ h in
-      ap₂ (λ a b. a && b) (one_same d parts.0) (each_same ds parts.1)
-
-  pub same_taken : IsSound cs → are_taken cs (told_by m) ≡ are_taken cs (value_of gs)
-  same_taken s = each_same cs s.free

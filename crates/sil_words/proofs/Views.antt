@@ -116,24 +116,30 @@ module _ (cs : List Choice) (t : IsTable cs) where
   pub views : (r : Reading) → list_all (is_split_piece cs) r.pieces ≡ true → SeenAs (givens_of r) (options_of r) (positionals_of r)
   views r h = pieces_seen r.pieces r.further h
 
+-- the positional word is called like no choice
+pub first_differs : (c : Choice) (cs : List Choice) → choice_named (c ∷ cs) position ≡ None → bytes_eq position c.name ≡ false
+first_differs c cs unplaced = by (bytes_eq c.name position) refl unplaced
+  where
+    by : (b : Bool) → bytes_eq c.name position ≡ b → cond b (Some c) (choice_named cs position) ≡ None → bytes_eq position c.name ≡ false
+    by true e h = cc
+    by false e h = false_from_ne_true _ (λ q.
+        let same_name = same_text position c.name q in
+        let itself : bytes_eq c.name position ≡ true = ap (λ m. bytes_eq m position) (sym same_name) in
+        cc)
+
+pub rest_unplaced : (c : Choice) (cs : List Choice) → choice_named (c ∷ cs) position ≡ None → choice_named cs position ≡ None
+rest_unplaced c cs unplaced = by (bytes_eq c.name position) unplaced
+  where
+    by : (b : Bool) → cond b (Some c) (choice_named cs position) ≡ None → choice_named cs position ≡ None
+    by true h = cc
+    by false h = h
+
 pub required_same : (cs : List Choice) → choice_named cs position ≡ None → (gs os : List Given)
     → ((name : Text) → bytes_eq position name ≡ false → is_given gs name ≡ is_given os name)
     → list_all (λ c. not c.is_required || is_given gs c.name) cs ≡ list_all (λ c. not c.is_required || is_given os c.name) cs
 required_same [] unplaced gs os same = refl
 required_same (c ∷ cs) unplaced gs os same =
-    ap₂ (λ a b. (not c.is_required || a) && b) (same c.name (differs (bytes_eq c.name position) refl unplaced))
-    (required_same cs (later (bytes_eq c.name position) unplaced) gs os same)
-  where
-    differs : (b : Bool) → bytes_eq c.name position ≡ b → cond b (Some c) (choice_named cs position) ≡ None → bytes_eq position c.name ≡ false
-    differs true e h = cc
-    differs false e h = false_from_ne_true _ (λ q.
-        let same_name = same_text position c.name q in
-        let itself : bytes_eq c.name position ≡ true = ap (λ m. bytes_eq m position) (sym same_name) in
-        cc)
-
-    later : (b : Bool) → cond b (Some c) (choice_named cs position) ≡ None → choice_named cs position ≡ None
-    later true h = cc
-    later false h = h
+    ap₂ (λ a b. (not c.is_required || a) && b) (same c.name (first_differs c cs unplaced)) (required_same cs (rest_unplaced c cs unplaced) gs os same)
 
 -- ---- exactly one word
 

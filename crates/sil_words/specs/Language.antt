@@ -1,15 +1,18 @@
 -- The words of a run: which lists of words are in the language, and what each of them asks for.
 use Rattle.std.specs.Prelude.{codes, ◌≡◌, ℕ, ◌^◌, ◌≤◌, ◌==◌, ◌&&◌, ◌||◌, nat_le, nat_lt, Bool, true, false, not, List, [], ◌∷◌, ◌++◌, length, find}
-use Rattle.std.specs.Prelude.{if◌then◌else◌, Option, Some, None, option_map}
+use Rattle.std.specs.Prelude.{if◌then◌else◌, Option, Some, None, option_map, fold}
 use Rattle.std.specs.List.{list_all, list_any}
 use Rattle.std.specs.Option.{option_map_or}
 use Rattle.std.specs.Char.{is_ascii_digit}
 use Rattle.std.specs.Str.{bytes_eq}
 use Rattle.std.specs.Str.Parse.{digits_value}
+use Rattle.sil_watch.specs.Kinds.{no_kinds, with_kind}
 use Rattle.sil_words.specs.declared.ask.Ask.{Ask}
 use Rattle.sil_words.specs.declared.ask.Mode.{Mode}
 use Rattle.sil_words.specs.declared.ask.Mode.TheVariants.{Low, High, Both}
 use Rattle.verb_table.specs.Table.{Choice, Row, Text, accepts, is_flag, row_named}
+use Rattle.verb_table.specs.declared.rows.Meaning.{Meaning}
+use Rattle.verb_table.specs.declared.rows.Meaning.TheVariants as meaning
 use Rattle.verb_table.specs.declared.verb.Positional.{Positional}
 use Rattle.verb_table.specs.declared.verb.Positional.TheVariants.{Name, Number}
 
@@ -186,9 +189,9 @@ abbrev pub number_asked : Positional → Option Text → ℕ
 number_asked Number (Some word) = digits_value 10 word
 number_asked _ _ = 0
 
-abbrev pub need_asked : Option Text → Option ℕ
-need_asked None = None
-need_asked (Some value) =
+-- the safety integrity level that a value names
+abbrev pub level_named : Text → Option ℕ
+level_named value =
     if bytes_eq value (codes "1") then Some 1
     else if bytes_eq value (codes "2") then Some 2
     else if bytes_eq value (codes "3") then Some 3
@@ -199,23 +202,36 @@ need_asked (Some value) =
 abbrev pub IsLevel : ℕ → Type 0
 IsLevel n = (1 ≤ n) × (n ≤ 4)
 
-abbrev pub mode_asked : Option Text → Mode
-mode_asked None = Low
-mode_asked (Some value) = if bytes_eq value (codes "high") then High else if bytes_eq value (codes "both") then Both else Low
+-- the figures that a value names
+abbrev pub mode_named : Text → Mode
+mode_named value = if bytes_eq value (codes "high") then High else if bytes_eq value (codes "both") then Both else Low
 
--- a field that the verb lacks holds the empty text, 0, `None`, `Low` or 0
+-- what a verb asks for with this positional word, where no option and no flag stands
+abbrev pub bare_ask : Row → Option Text → Ask
+bare_ask row word = record {
+  verb = row.verb;
+  name = name_asked row.positional word;
+  number = number_asked row.positional word;
+  need = None;
+  mode = Low;
+  watch = no_kinds;
+}
+
+-- what an option of this meaning makes of what is asked, by its value; a flag's value is not looked at
+abbrev pub with_meaning : Meaning → Text → Ask → Ask
+with_meaning meaning.Need value a = record a { need = level_named value }
+with_meaning meaning.Mode value a = record a { mode = mode_named value }
+with_meaning (meaning.Watch kind) value a = record a { watch = with_kind kind a.watch }
+
+-- what an option or a flag makes of what is asked, by the value that is given to its name, if one is
+abbrev pub with_choice : (Text → Option Text) → Ask → Choice → Ask
+with_choice given a c = option_map_or (λ value. with_meaning c.meaning value a) (given c.name) a
+
+abbrev pub with_choices : (Text → Option Text) → Ask → List Choice → Ask
+with_choices given a choices = fold (with_choice given) a choices
+
 abbrev pub ask_of : Row → Reading → Ask
-ask_of row r =
-    let given = value_of (options_of r) in
-    let word = first_word (positionals_of r) in
-    record {
-      verb = row.verb;
-      name = name_asked row.positional word;
-      number = number_asked row.positional word;
-      need = need_asked (given (codes "need"));
-      mode = mode_asked (given (codes "mode"));
-      watch = if is_given (options_of r) (codes "series") then 1 else 0;
-    }
+ask_of row r = with_choices (value_of (options_of r)) (bare_ask row (first_word (positionals_of r))) row.choices
 
 -- the words are in the language, and this is what they ask for, in whatever way they are read
 abbrev pub Asks : List Text → Ask → Type 0

@@ -4,7 +4,6 @@ use Rattle.std.specs.List.{list_all}
 use Rattle.std.specs.Option.{option_map_or}
 use Rattle.std.specs.Prelude.{option_and_then, option_map}
 use Rattle.std.specs.Borrow.{Bor}
-use Rattle.std.specs.Str.{bytes_eq}
 use Rattle.clap.specs.Matches.{first_value, found_of, matched_of}
 use Rattle.clap.specs.Walk.{Rule}
 use Rattle.clap.specs.declared.parser.matches.ArgMatches.{ArgMatches}
@@ -76,9 +75,6 @@ pub record IsSplit (choices : List Choice) (words : List Text) (r : Reading) : T
 abbrev pub shown : Option (Bor Text) → Option Text
 shown = option_map (λ v. v.now)
 
-abbrev pub has_no_flag : List Choice → Text → Bool
-has_no_flag choices name = list_all (λ c. not (is_flag c) || not (bytes_eq c.name name)) choices
-
 abbrev pub is_from_words : Option ValueSource → Bool
 is_from_words (Some CommandLine) = true
 is_from_words _ = false
@@ -87,9 +83,9 @@ is_from_words _ = false
 abbrev pub source_of : Found → Text → Option ValueSource
 source_of found name = option_and_then (λ a. a.source) (matched_of found name)
 
--- the value that matches tell of a name
+-- the value that matches tell of a name that stands in the words
 abbrev pub told_by : ArgMatches → Text → Option Text
-told_by m = first_value (found_of m)
+told_by m name = if is_from_words (source_of (found_of m) name) then first_value (found_of m) name else None
 
 -- the option takes this value, where there is one
 abbrev pub takes_told : Choice → Option Text → Bool
@@ -100,10 +96,9 @@ abbrev pub are_taken : List Choice → (Text → Option Text) → Bool
 are_taken choices told = list_all (λ c. takes_told c (told c.name)) choices
 
 -- the matches tell what is given
-pub record Tells (choices : List Choice) (m : ArgMatches) (givens : List Given) : Type 0 where
-  pub value : (name : Text) → has_no_flag choices name ≡ true → told_by m name ≡ value_of givens name
-  pub stands : (name : Text) → is_from_words (source_of (found_of m) name) ≡ is_given givens name
+abbrev pub Tells : ArgMatches → List Given → Type 0
+Tells m givens = (name : Text) → told_by m name ≡ value_of givens name
 
 -- the words are split in some way, and in whatever way, the matches tell what is given
 abbrev pub TellsOf : List Choice → List Text → ArgMatches → Type 0
-TellsOf choices words m = ((r : Reading) × IsSplit choices words r) × ((r : Reading) → IsSplit choices words r → Tells choices m (givens_of r))
+TellsOf choices words m = ((r : Reading) × IsSplit choices words r) × ((r : Reading) → IsSplit choices words r → Tells m (givens_of r))

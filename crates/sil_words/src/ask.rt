@@ -1,9 +1,14 @@
 //! What the words of a run ask for.
 
+ghost use Rattle.std.specs.Prelude.{◌≡◌};
+ghost use Rattle.sil_words.specs.Language.{with_meaning};
+
+use crate::values::{level_named, mode_named};
 use sil_model::Text;
+use sil_watch::WatchSet;
 use std::alloc::AllocError;
 use thiserror::Error;
-use verb_table::Verb;
+use verb_table::{Meaning, Verb};
 
 /// The mode of operation, which says of which figures the bands are asked.
 #[derive(Clone, Copy, Debug, PartialEq, Eq)]
@@ -16,7 +21,7 @@ pub enum Mode {
     Both,
 }
 
-/// What the words ask for. A field that the verb lacks holds the empty text, 0, `None`, `Low` or 0.
+/// What the words ask for. A field that the verb lacks holds the empty text, 0, `None`, `Low` or no kind.
 #[derive(Drop)]
 pub struct Ask {
     pub verb: Verb,
@@ -27,8 +32,21 @@ pub struct Ask {
     /// The safety integrity level, 1 to 4, that the asked bands are to meet.
     pub need: Option<u8>,
     pub mode: Mode,
-    /// The kind of the watcher that is asked: 1 for the series of phases, and 0 for none.
-    pub watch: u8,
+    /// The kinds of the watchers that are asked for.
+    pub watch: WatchSet,
+}
+
+impl Ask {
+    /// Takes in what an option of this meaning gives by its value. A flag's value is not looked at.
+    pub(crate) fn take(&mut self, meaning: Meaning, value: &str)
+        ensures { self.new ≡ with_meaning meaning value.now self.old }
+    {
+        match meaning {
+            Meaning::Need => self.need = level_named(value),
+            Meaning::Mode => self.mode = mode_named(value),
+            Meaning::Watch(kind) => self.watch.insert(kind),
+        }
+    }
 }
 
 /// Why there is no answer to the words.

@@ -1,20 +1,20 @@
 //! The words of a run, read.
 
-ghost use Rattle.std.specs.Prelude.{◌≡◌, codes, map, string_bytes, true, false, if◌then◌else◌, IfOk, IfErr, IfSome};
+ghost use Rattle.std.specs.Prelude.{◌≡◌, map, string_bytes, true, false, IfOk, IfErr, IfSome};
 ghost use Rattle.std.specs.Option.{option_map_or};
-ghost use Rattle.clap.specs.Matches.{found_of};
 ghost use Rattle.verb_table.specs.Rows.{seen_choice, seen_row};
 ghost use Rattle.verb_table.specs.Table.{IsCalled};
-ghost use Rattle.sil_words.specs.Language.{Asks, AsksAfter, IsInLanguage, IsLevel, IsReading, Reading, is_positional, name_asked, number_asked};
-ghost use Rattle.sil_words.specs.Splitting.{are_taken, is_from_words, shown, source_of, told_by};
+ghost use Rattle.sil_words.specs.Language.{Asks, AsksAfter, IsInLanguage, IsLevel, IsReading, Reading, is_positional, name_asked, number_asked, with_choice, with_choices};
+ghost use Rattle.sil_words.specs.Splitting.{are_taken, shown, told_by};
 ghost use Rattle.sil_words.specs.declared.ask.WordFault.TheVariants.{Usage};
 
-use crate::ask::{Ask, WordFault};
+use crate::ask::{Ask, Mode, WordFault};
 use crate::split::{POSITION, split_words};
-use crate::values::{is_taken, mode_asked, need_asked, read_number};
+use crate::values::{is_taken, read_number};
 use clap::ArgMatches;
 use clap::parser::ValueSource;
 use sil_model::Text;
+use sil_watch::WatchSet;
 use std::alloc::Global;
 use verb_table::{ChoiceRow, Positional, VerbRow, row_of_word};
 
@@ -46,19 +46,31 @@ fn read_after(alloc: Global, row: &VerbRow, words: &[String]) -> Result<Ask, Wor
     if !are_options_taken(&matches, row.choices) {
         return Err(WordFault::Usage);
     }
-    let (name, number) = read_positional(row.positional, matches.get_str(POSITION))?;
+    let (name, number) = read_positional(row.positional, told(&matches, POSITION))?;
     let name = match Text::from_str(alloc, name) {
         Ok(name) => name,
         Err(e) => return Err(WordFault::Memory(e)),
     };
-    Ok(Ask {
+    let mut ask = Ask {
         verb: row.verb,
         name,
         number,
-        need: need_asked(matches.get_str("need")),
-        mode: mode_asked(matches.get_str("mode")),
-        watch: watched(&matches),
-    })
+        need: None,
+        mode: Mode::Low,
+        watch: WatchSet::empty(),
+    };
+    take_choices(&matches, row.choices, &mut ask);
+    Ok(ask)
+}
+
+// The value that stands under a name in the words.
+fn told<'a>(matches: &ArgMatches<'a>, name: &str) -> Option<&'a str>
+    ensures { shown result ≡ told_by matches.now name.now }
+{
+    match matches.value_source(name) {
+        Some(ValueSource::CommandLine) => matches.get_str(name),
+        _ => None,
+    }
 }
 
 // Whether each option takes the value that it is given.
@@ -66,11 +78,28 @@ fn are_options_taken(matches: &ArgMatches, choices: &[ChoiceRow]) -> bool
     ensures { result ≡ are_taken (map seen_choice choices.now) (told_by matches.now) }
 {
     for choice in choices {
-        if !is_taken(choice, matches.get_str(choice.name)) {
+        if !is_taken(choice, told(matches, choice.name)) {
             return false;
         }
     }
     true
+}
+
+// Takes in what each option and flag gives that stands in the words.
+fn take_choices(matches: &ArgMatches, choices: &[ChoiceRow], ask: &mut Ask)
+    ensures { ask.new ≡ with_choices (told_by matches.now) ask.old (map seen_choice choices.now) }
+{
+    for choice in choices {
+        take_choice(matches, choice, ask);
+    }
+}
+
+fn take_choice(matches: &ArgMatches, choice: &ChoiceRow, ask: &mut Ask)
+    ensures { ask.new ≡ with_choice (told_by matches.now) ask.old (seen_choice choice.now) }
+{
+    if let Some(value) = told(matches, choice.name) {
+        ask.take(choice.meaning, value);
+    }
 }
 
 // The name, and the number, that the positional word gives.
@@ -89,15 +118,5 @@ fn read_positional<'a>(
     match positional {
         Positional::Name => Ok((word, 0)),
         Positional::Number => Ok(("", read_number(word)?)),
-    }
-}
-
-// The kinds that are watched: 1 where `--series` stands.
-fn watched(matches: &ArgMatches) -> u8
-    ensures { result ≡ (if is_from_words (source_of (found_of matches.now) (codes "series")) then 1 else 0) }
-{
-    match matches.value_source("series") {
-        Some(ValueSource::CommandLine) => 1,
-        _ => 0,
     }
 }

@@ -62,7 +62,7 @@ fn arg_for<'a>(alloc: Global, choice: &ChoiceRow) -> Arg<'a>
 {
     let action = match choice.values {
         Values::Nothing => ArgAction::SetTrue,
-        Values::OneOf(_) => ArgAction::Set,
+        _ => ArgAction::Set,
     };
     Arg::new(alloc, choice.name)
         .long(choice.name)

@@ -1,11 +1,11 @@
 //! The values of options, and numbers.
 
-ghost use Rattle.std.specs.Prelude.{◌≡◌, true, false, IfOk, IfErr, IfSome};
+ghost use Rattle.std.specs.Prelude.{◌≡◌, true, false, IfOk, IfErr};
 ghost use Rattle.std.specs.Char.{is_ascii_digit};
 ghost use Rattle.std.specs.List.{list_all};
 ghost use Rattle.std.specs.Str.Parse.{digits_value};
 ghost use Rattle.verb_table.specs.Rows.{seen_choice};
-ghost use Rattle.sil_words.specs.Language.{IsLevel, is_number, mode_asked, need_asked};
+ghost use Rattle.sil_words.specs.Language.{is_number, level_named, mode_named};
 ghost use Rattle.sil_words.specs.Splitting.{shown, takes_told};
 
 use crate::ask::{Mode, WordFault};
@@ -16,17 +16,16 @@ pub(crate) fn is_taken(choice: &ChoiceRow, value: Option<&str>) -> bool
     ensures { result ≡ takes_told (seen_choice choice.now) (shown value.entry) }
 {
     match (choice.values, value) {
-        (Values::OneOf(_), Some(value)) => choice.values.accepts(value),
-        _ => true,
+        (Values::Nothing, _) | (_, None) => true,
+        (values, Some(value)) => values.accepts(value),
     }
 }
 
-/// The highest safety integrity level that bands are to meet, by the value of `--need`.
-pub(crate) fn need_asked(value: Option<&str>) -> Option<u8>
-    ensures value { result ≡ need_asked (shown value.entry) }
-    ensures level { IfSome result IsLevel }
+/// The safety integrity level that a value names.
+pub(crate) fn level_named(value: &str) -> Option<u8>
+    ensures { result ≡ level_named value.now }
 {
-    match value? {
+    match value {
         "1" => Some(1),
         "2" => Some(2),
         "3" => Some(3),
@@ -35,13 +34,13 @@ pub(crate) fn need_asked(value: Option<&str>) -> Option<u8>
     }
 }
 
-/// The figures that are asked, by the value of `--mode`.
-pub(crate) fn mode_asked(value: Option<&str>) -> Mode
-    ensures { result ≡ mode_asked (shown value.entry) }
+/// The figures that a value names.
+pub(crate) fn mode_named(value: &str) -> Mode
+    ensures { result ≡ mode_named value.now }
 {
     match value {
-        Some("high") => Mode::High,
-        Some("both") => Mode::Both,
+        "high" => Mode::High,
+        "both" => Mode::Both,
         _ => Mode::Low,
     }
 }

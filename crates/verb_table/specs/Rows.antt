@@ -12,7 +12,7 @@ seen_values Nothing = nothing
 seen_values (OneOf values) = one_of (map (λ value. value.now) values.now)
 
 abbrev pub seen_choice : ChoiceRow → Choice
-seen_choice c = record { name = c.name.now; values = seen_values c.values; is_required = c.is_required }
+seen_choice c = record { name = c.name.now; values = seen_values c.values; is_required = c.is_required; meaning = c.meaning }
 
 abbrev pub seen_row : VerbRow → Row
 seen_row row = record { verb = row.verb; word = row.word.now; positional = row.positional; choices = map seen_choice row.choices.now }

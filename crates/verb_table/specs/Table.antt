@@ -2,6 +2,9 @@
 use Rattle.std.specs.Prelude.{codes, ◌≡◌, ℕ, Bool, true, false, List, [], ◌∷◌, Option, Some, find}
 use Rattle.std.specs.List.{list_any}
 use Rattle.std.specs.Str.{bytes_eq}
+use Rattle.sil_watch.specs.declared.kind.WatcherKind.TheVariants.{Series}
+use Rattle.verb_table.specs.declared.rows.Meaning.{Meaning}
+use Rattle.verb_table.specs.declared.rows.Meaning.TheVariants.{Need, Mode, Watch}
 use Rattle.verb_table.specs.declared.verb.Positional.{Positional}
 use Rattle.verb_table.specs.declared.verb.Positional.TheVariants.{Name, Number}
 use Rattle.verb_table.specs.declared.verb.Verb.{Verb}
@@ -17,11 +20,12 @@ pub data Values : Type 0 where
   -- one of these texts
   one_of : List Text → Values
 
--- an option or a flag, which is spelled with two dashes before its name
+-- an option or a flag, which is spelled with two dashes before its name, and what it gives to what is asked
 pub record Choice : Type 0 where
   pub name : Text
   pub values : Values
   pub is_required : Bool
+  pub meaning : Meaning
 
 -- a verb, the word by which it is called, and what follows: one positional word of this kind, and options and flags
 pub record Row : Type 0 where
@@ -33,13 +37,13 @@ pub record Row : Type 0 where
 -- the options and flags
 
 abbrev pub need : Choice
-need = record { name = codes "need"; values = one_of (codes "1" ∷ codes "2" ∷ codes "3" ∷ codes "4" ∷ []); is_required = false }
+need = record { name = codes "need"; values = one_of (codes "1" ∷ codes "2" ∷ codes "3" ∷ codes "4" ∷ []); is_required = false; meaning = Need }
 
 abbrev pub mode : Choice
-mode = record { name = codes "mode"; values = one_of (codes "low" ∷ codes "high" ∷ codes "both" ∷ []); is_required = false }
+mode = record { name = codes "mode"; values = one_of (codes "low" ∷ codes "high" ∷ codes "both" ∷ []); is_required = false; meaning = Mode }
 
 abbrev pub series : Choice
-series = record { name = codes "series"; values = nothing; is_required = false }
+series = record { name = codes "series"; values = nothing; is_required = false; meaning = Watch Series }
 
 -- the verbs, in the order of the usage text
 unfoldable pub verb_table : List Row
@@ -61,7 +65,7 @@ abbrev pub IsCalled : Row → Type 0
 IsCalled row = (word : Text) × (row_named word ≡ Some row)
 
 abbrev pub is_flag : Choice → Bool
-is_flag c = elim c.values [ nothing ↦ true | one_of values ↦ false ]
+is_flag c = elim c.values [ nothing ↦ true | _ ↦ false ]
 
 -- an option that takes these takes this text
 abbrev pub accepts : Values → Text → Bool

@@ -5,6 +5,7 @@ ghost use Rattle.verb_table.specs.Table.{accepts, row_named, verb_table};
 ghost use Rattle.verb_table.specs.Rows.{seen_row, seen_values};
 
 use crate::verb::{Positional, Verb};
+use sil_watch::WatcherKind;
 
 /// What an option takes.
 #[derive(Clone, Copy)]
@@ -15,12 +16,24 @@ pub enum Values {
     OneOf(&'static [&'static str]),
 }
 
+/// What an option or a flag gives to what is asked.
+#[derive(Clone, Copy)]
+pub enum Meaning {
+    /// The safety integrity level that the asked bands are to meet.
+    Need,
+    /// The figures whose bands are asked.
+    Mode,
+    /// A watcher of this kind is asked for.
+    Watch(WatcherKind),
+}
+
 /// An option, which takes a value, or a flag, which takes none. It is spelled with two dashes before its name.
 #[derive(Clone, Copy)]
 pub struct ChoiceRow {
     pub name: &'static str,
     pub values: Values,
     pub is_required: bool,
+    pub meaning: Meaning,
 }
 
 /// A verb, and what follows its word.
@@ -36,18 +49,21 @@ const NEED: ChoiceRow = ChoiceRow {
     name: "need",
     values: Values::OneOf(&["1", "2", "3", "4"]),
     is_required: false,
+    meaning: Meaning::Need,
 };
 
 const MODE: ChoiceRow = ChoiceRow {
     name: "mode",
     values: Values::OneOf(&["low", "high", "both"]),
     is_required: false,
+    meaning: Meaning::Mode,
 };
 
 const SERIES: ChoiceRow = ChoiceRow {
     name: "series",
     values: Values::Nothing,
     is_required: false,
+    meaning: Meaning::Watch(WatcherKind::Series),
 };
 
 static ROWS: [VerbRow; 4] = [

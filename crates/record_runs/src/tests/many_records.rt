@@ -1,8 +1,8 @@
 //! Many records where memory is at hand: no series refuses one, and neither does `feed`.
 
-use super::lines_of;
+use super::{lines_of, series, some_series};
 use sil_model::Decimal18;
-use sil_watch::{PhaseRecord, Series, Watcher, feed};
+use sil_watch::{PhaseRecord, feed};
 use std::test::Fail;
 
 /// The record of the hour `index`, in which the loop is never down.
@@ -17,36 +17,19 @@ const fn hour(index: u32) -> PhaseRecord {
     }
 }
 
-/// A series takes in each of 2,000 records, and has a line of each.
+/// Two series of a list take in each of 2,000 records, and have a line of each.
 #[test]
-fn series_refuses_none(rt: HostRuntime) -> Result<(), Fail> {
-    let mut series = Series::new(rt.alloc());
-    for index in 1..2001 {
-        series.phase(&hour(index))?;
-    }
-    let mut out = Vec::new(rt.alloc());
-    assert!(rt; series.put_line(1999, &mut out)?);
-    assert!(rt; !series.put_line(2000, &mut out)?);
-    assert!(rt;
-        out.as_slice()
-            .starts_with(b"phase 2000 start 0 hours 1 mean 0.0")
-    );
-    Ok(())
-}
-
-/// Two watchers of a list take in each of them.
-#[test]
-fn feed_refuses_none(rt: HostRuntime) -> Result<(), Fail> {
+fn none_is_refused(rt: HostRuntime) -> Result<(), Fail> {
     let alloc = rt.alloc();
-    let mut all: Vec<Box<dyn Watcher>> = Vec::new(alloc);
-    all.push(Box::new(alloc, Series::new(alloc))?)?;
-    all.push(Box::new(alloc, Series::new(alloc))?)?;
+    let mut all = some_series(alloc, 2)?;
     for index in 1..2001 {
-        feed(all.as_mut_slice(), 1, &hour(index))?;
+        feed(all.as_mut_slice(), series(), &hour(index))?;
     }
     for i in 0..2 {
         let lines = lines_of(alloc, all.as_slice(), i)?;
         assert_eq!(rt; lines.as_str().lines().count(), 2000);
+        let last = lines.as_str().lines().last().ok_or("no line")?;
+        assert!(rt; last.starts_with("phase 2000 start 0 hours 1 mean 0.0"));
     }
     Ok(())
 }

@@ -10,8 +10,8 @@ mod tests_each_hour;
 
 use loop_value::{ValueFault, value};
 use sil_model::{Loop, Steps};
-use sil_watch::Watcher;
-use std::alloc::Global;
+use sil_watch::{Series, WatchSet, Watcher, WatcherKind};
+use std::alloc::{AllocError, Global};
 use std::marker::Brand;
 use std::sync::ledger::{Blank, Ledger};
 use std::test::Fail;
@@ -29,7 +29,7 @@ fn computed<L: Ledger>(
     alloc: Global,
     l: &Loop,
     feed: &mut [Box<dyn Watcher>],
-    asked: u8,
+    asked: WatchSet,
     blank: Blank,
 ) -> Ended
     requires name { blank.name ≡ L.name }
@@ -44,9 +44,23 @@ fn computed<L: Ledger>(
     }
 }
 
-/// Computes a loop, and feeds the watchers whose kind shares a bit with `asked`.
-fn told(alloc: Global, l: &Loop, feed: &mut [Box<dyn Watcher>], asked: u8) -> Ended {
+/// Computes a loop, and feeds the watchers whose kind is asked for.
+fn told(alloc: Global, l: &Loop, feed: &mut [Box<dyn Watcher>], asked: WatchSet) -> Ended {
     computed::<Brand>(alloc, l, feed, asked, Blank::new(1))
+}
+
+/// The set of the series alone.
+fn series() -> WatchSet {
+    WatchSet::only(WatcherKind::Series)
+}
+
+/// So many series.
+fn some_series(alloc: Global, number: usize) -> Result<Vec<Box<dyn Watcher>>, AllocError> {
+    let mut feed: Vec<Box<dyn Watcher>> = Vec::new(alloc);
+    for _ in 0..number {
+        feed.push(Box::new(alloc, Series::new(alloc))?)?;
+    }
+    Ok(feed)
 }
 
 /// The lines of the watcher `i`, one behind the other.

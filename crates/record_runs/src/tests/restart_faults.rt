@@ -1,11 +1,10 @@
 //! A channel that fails at its tests alone, phase by phase.
 
 use super::short_of_room::ShortOfRoom;
-use super::{Ended, holds, lines_of, told};
+use super::{Ended, holds, lines_of, series, some_series, told};
 use sample_loops::{Sample, sample_loop};
-use sil_model::{ChannelFigures, InRepair, Loop, TestPlan, Vote};
-use sil_watch::{Series, Watcher};
-use std::alloc::{AllocError, Global};
+use sil_model::{ChannelFigures, InRepair, TestPlan, Vote};
+use sil_watch::{Series, WatchSet};
 use std::test::Fail;
 
 /// A chance of 0.02 at a test, a repair of 8 hours, and tests at the hours 50 and 75 of a mission of 100.
@@ -43,27 +42,32 @@ phase 3 start 75 hours 25|25718803624810192|20478738672468148
 /// means with 4, and 8 at the end.
 const WIDEST: u128 = 44_227_734;
 
-fn one_channel(alloc: Global) -> Result<Loop, Fail> {
-    Ok(sample_loop(alloc, 100, &[RESTART_FAULTS])?.ok_or("a value is out of its range")?)
-}
-
-/// So many series.
-fn some_series(alloc: Global, number: usize) -> Result<Vec<Box<dyn Watcher>>, AllocError> {
-    let mut feed: Vec<Box<dyn Watcher>> = Vec::new(alloc);
-    for _ in 0..number {
-        feed.push(Box::new(alloc, Series::new(alloc))?)?;
-    }
-    Ok(feed)
-}
-
+/// Each phase has its mean and its end, whatever number of series is fed, and a series is as before where nobody asks for it.
+/// Where a watcher refuses its third record the computation ends: it holds the first two, and so does one behind it.
 #[test]
-fn each_phase_has_its_mean_and_its_end(rt: HostRuntime) -> Result<(), Fail> {
+fn restart_faults_phase_by_phase(rt: HostRuntime) -> Result<(), Fail> {
     let alloc = rt.alloc();
-    let l = one_channel(alloc)?;
-    let mut feed = some_series(alloc, 1)?;
-    assert_eq!(rt; told(alloc, &l, feed.as_mut_slice(), 1), Ended::WithFigures);
+    let l = sample_loop(alloc, 100, &[RESTART_FAULTS])?.ok_or("a value is out of its range")?;
+    let mut feed = some_series(alloc, 2)?;
+    for (asked, count) in [
+        (WatchSet::empty(), 0),
+        (series(), 3),
+        (WatchSet::empty(), 3),
+    ] {
+        assert_eq!(rt;
+            told(alloc, &l, feed.as_mut_slice(), asked),
+            Ended::WithFigures
+        );
+        for i in 0..2 {
+            let lines = lines_of(alloc, feed.as_slice(), i)?;
+            assert_eq!(rt; lines.as_str().lines().count(), count);
+        }
+    }
     let lines = lines_of(alloc, feed.as_slice(), 0)?;
-    assert_eq!(rt; lines.as_str().lines().count(), 3);
+    assert_eq!(rt;
+        lines_of(alloc, feed.as_slice(), 1)?.as_str(),
+        lines.as_str()
+    );
     for (line, row) in lines.as_str().lines().zip(PHASES.lines()) {
         let (start, figures) = row.split_once('|').ok_or("no figures")?;
         let (mean, end) = figures.split_once('|').ok_or("no end")?;
@@ -73,49 +77,15 @@ fn each_phase_has_its_mean_and_its_end(rt: HostRuntime) -> Result<(), Fail> {
         assert!(rt; holds(means, mean, WIDEST)?, "{line}");
         assert!(rt; holds(ends, end, WIDEST)?, "{line}");
     }
-    Ok(())
-}
-
-/// Watchers of one kind hold all records each, and are as before where nobody asks for them.
-#[test]
-fn two_watchers_of_one_kind(rt: HostRuntime) -> Result<(), Fail> {
-    let alloc = rt.alloc();
-    let l = one_channel(alloc)?;
-    let mut feed = some_series(alloc, 2)?;
-    assert_eq!(rt;
-        told(alloc, &l, feed.as_mut_slice(), 254),
-        Ended::WithFigures
-    );
-    assert_eq!(rt; lines_of(alloc, feed.as_slice(), 0)?.as_str(), "");
-    assert_eq!(rt; told(alloc, &l, feed.as_mut_slice(), 1), Ended::WithFigures);
-    let lines = lines_of(alloc, feed.as_slice(), 0)?;
-    assert_eq!(rt; lines.as_str().lines().count(), 3);
-    assert_eq!(rt; told(alloc, &l, feed.as_mut_slice(), 2), Ended::WithFigures);
-    for i in 0..2 {
-        assert_eq!(rt;
-            lines_of(alloc, feed.as_slice(), i)?.as_str(),
-            lines.as_str()
-        );
-    }
-    Ok(())
-}
-
-/// Where a watcher refuses its third record the computation ends: it holds the first two, and so does one behind it.
-#[test]
-fn third_record_refused(rt: HostRuntime) -> Result<(), Fail> {
-    let alloc = rt.alloc();
-    let l = one_channel(alloc)?;
-    let mut feed = some_series(alloc, 1)?;
-    feed.push(Box::new(alloc, ShortOfRoom::new(alloc, 2))?)?;
-    feed.push(Box::new(alloc, Series::new(alloc))?)?;
-    assert_eq!(rt;
-        told(alloc, &l, feed.as_mut_slice(), 1),
-        Ended::ForWantOfMemory
-    );
-    let before = lines_of(alloc, feed.as_slice(), 0)?;
-    let refuser = lines_of(alloc, feed.as_slice(), 1)?;
-    let behind = lines_of(alloc, feed.as_slice(), 2)?;
-    assert_eq!(rt; before.as_str().lines().count(), 3);
+    let mut short = some_series(alloc, 1)?;
+    short.push(Box::new(alloc, ShortOfRoom::new(alloc, 2))?)?;
+    short.push(Box::new(alloc, Series::new(alloc))?)?;
+    let ended = told(alloc, &l, short.as_mut_slice(), series());
+    assert_eq!(rt; ended, Ended::ForWantOfMemory);
+    let before = lines_of(alloc, short.as_slice(), 0)?;
+    let refuser = lines_of(alloc, short.as_slice(), 1)?;
+    let behind = lines_of(alloc, short.as_slice(), 2)?;
+    assert_eq!(rt; before.as_str(), lines.as_str());
     assert_eq!(rt; refuser.as_str().lines().count(), 2);
     assert!(rt; before.as_str().starts_with(refuser.as_str()));
     assert_eq!(rt; behind.as_str(), refuser.as_str());

@@ -1,9 +1,8 @@
 //! A watcher that runs out of room.
 
-ghost use Rattle.std.specs.Prelude.{◌≡◌};
 ghost use Rattle.sil_watch.specs.Series.{series_value};
 
-use sil_watch::{PhaseRecord, Series, Watcher};
+use sil_watch::{PhaseRecord, Series, Watcher, WatcherKind};
 use std::alloc::{AllocError, Global};
 
 /// A series that has room for so many records more, and refuses the next one.
@@ -25,9 +24,7 @@ impl ShortOfRoom {
 impl Watcher for ShortOfRoom {
     ghost watcher_value = { λ w. series_value w.series };
 
-    fn kind(&self) -> u8
-        ensures { result ≡ 1 }
-    {
+    fn kind(&self) -> WatcherKind {
         self.series.kind()
     }
 

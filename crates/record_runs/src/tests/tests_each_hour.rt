@@ -1,9 +1,8 @@
 //! As many phases as a loop can have: one channel, tested each hour.
 
-use super::{Ended, holds, lines_of, told};
+use super::{Ended, holds, lines_of, series, some_series, told};
 use sample_loops::{ONE_CHANNEL, Sample, YEARLY, sample_loop};
 use sil_model::TestPlan;
-use sil_watch::{Series, Watcher};
 use std::test::Fail;
 
 /// How wide the interval of PFDavg of this loop may be: 4,097 beats that lose 819 units of 2^-48 each, 4,096 tests with 72, 4,097
@@ -22,9 +21,11 @@ fn all_phases_in_their_order(rt: HostRuntime) -> Result<(), Fail> {
         ..ONE_CHANNEL
     };
     let l = sample_loop(alloc, 4097, &[hourly])?.ok_or("a value is out of its range")?;
-    let mut feed: Vec<Box<dyn Watcher>> = Vec::new(alloc);
-    feed.push(Box::new(alloc, Series::new(alloc))?)?;
-    assert_eq!(rt; told(alloc, &l, feed.as_mut_slice(), 1), Ended::WithFigures);
+    let mut feed = some_series(alloc, 1)?;
+    assert_eq!(rt;
+        told(alloc, &l, feed.as_mut_slice(), series()),
+        Ended::WithFigures
+    );
     let lines = lines_of(alloc, feed.as_slice(), 0)?;
     assert_eq!(rt; lines.as_str().lines().count(), 4097);
     let starts = (0u32..4097).zip(1u32..4098);

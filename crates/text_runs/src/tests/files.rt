@@ -4,6 +4,16 @@ use loop_file::read_loop;
 use std::alloc::{AllocError, Global};
 use std::test::Fail;
 
+/// The top table with all that it needs.
+const TOP: &str = "version = 1\nmission = 9\n";
+
+/// A subsystem with its name alone.
+const NAMED: &str = "version = 1\nmission = 9\n[[subsystem]]\nname = \"a\"\n";
+
+/// A subsystem that lacks its repair time.
+const RATED: &str =
+    "version = 1\nmission = 9\n[[subsystem]]\nname = \"a\"\nvote = \"1oo1\"\ndu = \"0\"\n";
+
 /// What the fault says of a file of these lines, or `accepted`.
 fn outcome(alloc: Global, top: &str, rest: &str) -> Result<String, AllocError> {
     let file = format!(in alloc; "{top}{rest}")?;
@@ -13,99 +23,67 @@ fn outcome(alloc: Global, top: &str, rest: &str) -> Result<String, AllocError> {
     }
 }
 
-/// What the fault says of a file with a subsystem of these lines, or `accepted`.
-fn subsystem_outcome(alloc: Global, rest: &str) -> Result<String, AllocError> {
-    outcome(
-        alloc,
-        "version = 1\nmission = 9\n[[subsystem]]\nname = \"a\"\n",
-        rest,
-    )
-}
-
 #[test]
-fn faults_of_the_top_table(rt: HostRuntime) -> Result<(), Fail> {
+fn first_faults_of_files(rt: HostRuntime) -> Result<(), Fail> {
     let cases = [
-        ("", "missing version"),
-        ("version = 7\n", "version 7"),
-        ("version =", "not TOML"),
-        ("version = 1\n", "missing mission"),
-        ("version = 1\nmission = 0\n", "out of range mission"),
-        ("version = 1\nmission = 9\n", "missing subsystem"),
-    ];
-    for (top, fault) in cases {
-        assert_eq!(rt; outcome(rt.alloc(), top, "")?.as_str(), fault);
-    }
-    Ok(())
-}
-
-#[test]
-fn faults_beside_a_mission(rt: HostRuntime) -> Result<(), Fail> {
-    let cases = [
-        ("zz = 1\nza = 1\n", "unknown key za"),
-        ("\"\u{e9}\" = 1\n", "unknown key ??"),
-        ("order = 15\n", "out of range order"),
-        ("type = 3\n", "wrong kind type"),
-        ("type = [1]\n", "wrong kind type[0]"),
-        ("subsystem = []\n", "out of range subsystem"),
-        ("mission = 9\n", "not TOML"),
-    ];
-    for (rest, fault) in cases {
-        assert_eq!(rt;
-            outcome(rt.alloc(), "version = 1\nmission = 9\n", rest)?.as_str(),
-            fault
-        );
-    }
-    Ok(())
-}
-
-#[test]
-fn faults_of_a_subsystem(rt: HostRuntime) -> Result<(), Fail> {
-    let cases = [
-        ("", "missing subsystem[0].vote"),
-        ("vote = \"3oo2\"\n", "vote subsystem[0].vote"),
-        ("vote = \"1oo1\"\n", "missing subsystem[0].du"),
-        ("du_rate = 1\n", "unknown key subsystem[0].du_rate"),
+        ("", "", "missing version"),
+        ("", "version = 7\n", "version 7"),
+        ("", "version =", "not TOML"),
+        ("", "version = 1\n", "missing mission"),
+        ("", "version = 1\nmission = 0\n", "out of range mission"),
+        (TOP, "", "missing subsystem"),
+        (TOP, "zz = 1\nza = 1\n", "unknown key za"),
+        (TOP, "\"\u{e9}\" = 1\n", "unknown key ??"),
+        (TOP, "order = 15\n", "out of range order"),
+        (TOP, "type = 3\n", "wrong kind type"),
+        (TOP, "type = [1]\n", "wrong kind type[0]"),
+        (TOP, "subsystem = []\n", "out of range subsystem"),
+        (TOP, "mission = 9\n", "not TOML"),
+        (NAMED, "", "missing subsystem[0].vote"),
+        (NAMED, "vote = \"3oo2\"\n", "vote subsystem[0].vote"),
+        (NAMED, "vote = \"1oo1\"\n", "missing subsystem[0].du"),
+        (NAMED, "du_rate = 1\n", "unknown key subsystem[0].du_rate"),
         (
+            NAMED,
             "vote = \"1oo1\"\ntype = \"x\"\n",
             "unknown type subsystem[0].type",
         ),
-        ("vote = \"1oo1\"\ndu = 1e-6\n", "wrong kind subsystem[0].du"),
         (
+            NAMED,
+            "vote = \"1oo1\"\ndu = 1e-6\n",
+            "wrong kind subsystem[0].du",
+        ),
+        (
+            NAMED,
             "vote = \"1oo1\"\ndu = \"1E-13\"\n",
             "text subsystem[0].du too fine",
         ),
-    ];
-    for (rest, fault) in cases {
-        assert_eq!(rt; subsystem_outcome(rt.alloc(), rest)?.as_str(), fault);
-    }
-    Ok(())
-}
-
-/// What the fault says of a subsystem that has all it needs but for these lines, or `accepted`.
-fn last_outcome(alloc: Global, rest: &str) -> Result<String, AllocError> {
-    let text = format!(in alloc; "vote = \"1oo1\"\ndu = \"0\"\n{rest}")?;
-    subsystem_outcome(alloc, text.as_str())
-}
-
-#[test]
-fn faults_of_the_last_keys(rt: HostRuntime) -> Result<(), Fail> {
-    let cases = [
-        ("", "missing subsystem[0].repair"),
-        ("repair = 8\n", "accepted"),
-        ("repair = 8761\n", "out of range subsystem[0].repair"),
+        (RATED, "", "missing subsystem[0].repair"),
+        (RATED, "repair = 8\n", "accepted"),
+        (RATED, "repair = 8761\n", "out of range subsystem[0].repair"),
         (
+            RATED,
             "repair = 8\nin_repair = \"off\"\n",
             "text subsystem[0].in_repair not a choice",
         ),
-        ("repair = 8\ntest = 5\n", "wrong kind subsystem[0].test"),
-        ("repair = 8\ntest = {}\n", "missing subsystem[0].test.every"),
         (
+            RATED,
+            "repair = 8\ntest = 5\n",
+            "wrong kind subsystem[0].test",
+        ),
+        (
+            RATED,
+            "repair = 8\ntest = {}\n",
+            "missing subsystem[0].test.every",
+        ),
+        (
+            RATED,
             "repair = 8\n[[subsystem]]\nname = \"a\"\n",
             "same name subsystem[1].name",
         ),
     ];
-    for (rest, fault) in cases {
-        assert_eq!(rt; last_outcome(rt.alloc(), rest)?.as_str(), fault);
+    for (top, rest, fault) in cases {
+        assert_eq!(rt; outcome(rt.alloc(), top, rest)?.as_str(), fault);
     }
     Ok(())
 }

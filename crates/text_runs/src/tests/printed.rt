@@ -7,8 +7,10 @@ use sil_report::{file_fault_text, limit_fault_text, size_text, too_long_text, us
 use sil_text::TextFault;
 use std::test::Fail;
 
+/// Limits are named with their counts, usage has a line for each verb, and sizes are those of one channel without tests.
 #[test]
-fn limits_are_named_with_their_counts(rt: HostRuntime) -> Result<(), Fail> {
+fn limits_usage_and_sizes(rt: HostRuntime) -> Result<(), Fail> {
+    let alloc = rt.alloc();
     for (fault, line) in [
         (
             LimitFault::TooManyTests(4097),
@@ -32,7 +34,7 @@ fn limits_are_named_with_their_counts(rt: HostRuntime) -> Result<(), Fail> {
         ),
     ] {
         assert_eq!(rt;
-            limit_fault_text(rt.alloc(), &fault)?.as_slice(),
+            limit_fault_text(alloc, &fault)?.as_slice(),
             line.as_bytes()
         );
     }
@@ -40,22 +42,28 @@ fn limits_are_named_with_their_counts(rt: HostRuntime) -> Result<(), Fail> {
         too_long_text(),
         "refused: file longer than 65536 bytes\n".as_bytes()
     );
-    Ok(())
-}
-
-#[test]
-fn usage_has_a_line_for_each_verb(rt: HostRuntime) -> Result<(), Fail> {
     let lines = [
         "usage: sil check NAME [--need 1|2|3|4] [--mode low|high|both] [--series]\n",
         "       sil size NAME\n",
         "       sil gen NUMBER\n",
         "       sil bench NUMBER [--need 1|2|3|4] [--mode low|high|both] [--series]\n",
     ];
-    let mut text = String::new(rt.alloc());
+    let mut text = String::new(alloc);
     for line in lines {
         text.push_str(line)?;
     }
     assert_eq!(rt; usage_text(), text.as_bytes());
+    let l = sample_loop(alloc, 8760, &[ONE_CHANNEL])?.ok_or("out of range")?;
+    let sizes = Sizes {
+        phases: 1,
+        states: 4,
+        beats: 1096,
+        work: 122_752,
+    };
+    assert_eq!(rt;
+        size_text(alloc, &l, &sizes)?.as_slice(),
+        "mission 8760\nphases 1\nstates 4\nbeats 1096\norder 28\nwork 122752\n".as_bytes()
+    );
     Ok(())
 }
 
@@ -126,22 +134,5 @@ fn faults_of_a_file_are_named_with_their_places(rt: HostRuntime) -> Result<(), F
         let fault = FileFault::BadText(at("subsystem[0].du")?, fault);
         assert_eq!(rt; file_fault_text(alloc, &fault)?.as_slice(), line.as_bytes());
     }
-    Ok(())
-}
-
-#[test]
-fn sizes_of_one_channel_without_tests(rt: HostRuntime) -> Result<(), Fail> {
-    let alloc = rt.alloc();
-    let l = sample_loop(alloc, 8760, &[ONE_CHANNEL])?.ok_or("out of range")?;
-    let sizes = Sizes {
-        phases: 1,
-        states: 4,
-        beats: 1096,
-        work: 122_752,
-    };
-    assert_eq!(rt;
-        size_text(alloc, &l, &sizes)?.as_slice(),
-        "mission 8760\nphases 1\nstates 4\nbeats 1096\norder 28\nwork 122752\n".as_bytes()
-    );
     Ok(())
 }

@@ -2,8 +2,9 @@
 
 use verb_table::{Positional, Values, Verb, row_of_word, verb_rows};
 
+/// Rows are found by their word, and options take their values alone.
 #[test]
-fn rows_are_found_by_their_word(rt: HostRuntime) {
+fn rows_and_values(rt: HostRuntime) {
     let verbs = [
         ("check", Verb::Check, Positional::Name, 3),
         ("size", Verb::Size, Positional::Name, 0),
@@ -16,10 +17,6 @@ fn rows_are_found_by_their_word(rt: HostRuntime) {
         assert_eq!(rt; found, Some((verb, positional, choices)), "{word}");
     }
     assert!(rt; row_of_word("Check").is_none() && row_of_word("").is_none());
-}
-
-#[test]
-fn options_take_their_values_alone(rt: HostRuntime) {
     let levels = Values::OneOf(&["1", "2"]);
     assert!(rt; levels.accepts("2") && !levels.accepts("3") && !levels.accepts(""));
     assert!(rt; !Values::Nothing.accepts(""));

@@ -1,11 +1,7 @@
 //! Watchers that are fed, alone and in a list, and their lines.
 
-ghost use Rattle.std.specs.Prelude.{◌≡◌, [], ◌∷◌, OnOk, OnErr, IfOk};
-ghost use Rattle.sil_watch.specs.Watching.{WatcherValue, fed_with};
-ghost use Rattle.sil_watch.specs.Lines.{IsLineAt};
-
 use sil_model::Decimal18;
-use sil_watch::{PhaseRecord, Series, Watcher, feed, put_lines};
+use sil_watch::{PhaseRecord, Series, WatchSet, Watcher, WatcherKind, feed, put_lines};
 use std::alloc::{AllocError, Global};
 use std::test::Fail;
 
@@ -42,8 +38,9 @@ fn lines(alloc: Global, w: &Box<dyn Watcher>) -> Result<Vec<u8>, AllocError> {
     Ok(out)
 }
 
+/// A series has one line for each record, and watchers in a list are fed, and tell their lines, where they are asked for.
 #[test]
-fn a_series_has_one_line_for_each_record(rt: HostRuntime) -> Result<(), Fail> {
+fn watchers_tell_lines(rt: HostRuntime) -> Result<(), Fail> {
     let alloc = rt.alloc();
     let mut series = Series::new(alloc);
     let mut out = [b'>'].to_vec(alloc)?;
@@ -53,37 +50,26 @@ fn a_series_has_one_line_for_each_record(rt: HostRuntime) -> Result<(), Fail> {
     assert_eq!(rt; out.as_slice(), b">".as_slice());
     assert!(rt; series.put_line(0, &mut out)?);
     assert_eq!(rt; &out.as_slice()[1..], FIRST);
-    assert_eq!(rt; series.kind(), 1);
-    Ok(())
-}
-
-#[test]
-fn watchers_that_are_asked_for_are_fed(rt: HostRuntime) -> Result<(), Fail> {
-    let alloc = rt.alloc();
+    assert_eq!(rt; series.kind(), WatcherKind::Series);
     let mut all: Vec<Box<dyn Watcher>> = Vec::new(alloc);
     all.push(Box::new(alloc, Series::new(alloc))?)?;
     all.push(Box::new(alloc, Series::new(alloc))?)?;
-    feed(all.as_mut_slice(), 2, &record(1))?;
+    let nobody = WatchSet::empty();
+    let asked = WatchSet::only(WatcherKind::Series);
+    feed(all.as_mut_slice(), nobody, &record(1))?;
     assert_eq!(rt; lines(alloc, &all[0])?.as_slice(), b"".as_slice());
-    feed(all.as_mut_slice(), 3, &record(1))?;
+    feed(all.as_mut_slice(), asked, &record(1))?;
     assert_eq!(rt; lines(alloc, &all[0])?.as_slice(), FIRST);
     assert_eq!(rt; lines(alloc, &all[1])?.as_slice(), FIRST);
-    Ok(())
-}
-
-#[test]
-fn lines_of_those_that_are_asked_for(rt: HostRuntime) -> Result<(), Fail> {
-    let alloc = rt.alloc();
-    let mut all: Vec<Box<dyn Watcher>> = Vec::new(alloc);
-    all.push(Box::new(alloc, Series::new(alloc))?)?;
-    feed(all.as_mut_slice(), 1, &record(1))?;
-    feed(all.as_mut_slice(), 1, &record(2))?;
-    let mut out = Vec::new(alloc);
-    put_lines(all.as_slice(), 2, &mut out)?;
-    assert!(rt; out.is_empty());
-    put_lines(all.as_slice(), 1, &mut out)?;
+    feed(all.as_mut_slice(), asked, &record(2))?;
+    let mut told = Vec::new(alloc);
+    put_lines(all.as_slice(), nobody, &mut told)?;
+    assert!(rt; told.is_empty());
+    put_lines(all.as_slice(), asked, &mut told)?;
     let mut both = FIRST.to_vec(alloc)?;
     both.extend_from_slice(SECOND)?;
-    assert_eq!(rt; out.as_slice(), both.as_slice());
+    both.extend_from_slice(FIRST)?;
+    both.extend_from_slice(SECOND)?;
+    assert_eq!(rt; told.as_slice(), both.as_slice());
     Ok(())
 }

@@ -9,6 +9,7 @@ returns-in_err-offer-clause-refused g c =
       c.loop-i.i,
       none_more (λ b. (goal.Watcher-dyn g (b.vtable, b.value)).watcher_value b.value) (fed_of c.args.asked (c.args.rec.now ∷ [])) c.args.all.now c.loop-i.all c.loop-i.i c.offer.new.w c.index-all-i.result
           (search rules) (search rules) c.loop-i.invariant c.in_err-offer.ensures.refused,
+      search rules,
     )
 
 pub loop-i-preserved : goal.loop-i-preserved

@@ -1,6 +1,7 @@
 //! Lines of words, and what each asks for.
 
-/// Words that `|` separates, and after the arrow `usage`, or verb, number, band that is needed, mode, watcher and name.
+/// Words that `|` separates, and after the arrow `usage`, or verb, number, band that is needed, mode, whether
+/// the series is watched, and name.
 pub(crate) const LINES: &str = "\
 | => usage
 check => usage

