@@ -1,6 +1,6 @@
 //! Whole runs over a shelf and a sink in memory, of which no premise is left open.
 //!
-//! The clause `complete` of [`run`] has premises: that the words are in the language, that the file is told, without fault and
+//! The promise `complete` of [`run_program`] has premises: that the words are in the language, that the file is told, without fault and
 //! within the limits, and that neither count of faults rises. Here the shelf, the sink and the words are made, and each of those
 //! premises is proved: what remains is said of the bytes of the file alone ([`check_file`]), read off them ([`check_sound`]), or
 //! nothing at all ([`check_drawn`], [`check_one_channel`]).
@@ -19,7 +19,7 @@ use loop_print::print_loop;
 use loop_value::{ValueFault, measure};
 use sil_io::{MemShelf, MemSink};
 use sil_model::MOST_FILE_BYTES;
-use sil_top::{Status, run};
+use sil_top::{Status, run_program};
 use std::alloc::{AllocError, Global};
 
 /// Room for every report.
@@ -59,7 +59,7 @@ pub fn check_file(alloc: Global, file: &[u8]) -> Result<(Status, MemSink), Alloc
     shelf.put("loop.toml", file)?;
     let mut sink = MemSink::new(alloc, ROOM)?;
     let words = words_of_check(alloc)?;
-    let status = run(alloc, &words, &mut shelf, &mut sink, Vec::new(alloc));
+    let status = run_program(alloc, &words, &mut shelf, &mut sink);
     Ok((status, sink))
 }
 

@@ -1,5 +1,8 @@
 pub mod Bands
 pub mod Complete
+pub mod FileRows
+pub mod Kept
+pub mod Loading
 pub mod Programs
 pub mod Refused
 pub mod Reports

@@ -1,6 +1,6 @@
 -- A report of true figures, and what a report fixes.
-use Rattle.std.proofs.Common.{◌≡◌, ℕ, ◌+◌, ◌≤◌, List, ◌++◌, length, refl, sym, ap, ◌∙◌, arith, append_assoc, if◌then◌else◌}
-use Rattle.std.specs.Prelude.{codes, None}
+use Rattle.std.proofs.Common.{◌≡◌, ℕ, ◌+◌, ◌≤◌, List, ◌++◌, length, refl, sym, ap, ◌∙◌, arith, append_assoc, if◌then◌else◌, true, false, inl, inr, Some, None}
+use Rattle.std.specs.Prelude.{codes, option_map}
 use Rattle.std.proofs.lemmas.List.{append_cancel_left}
 use Rattle.sil_model.specs.LoopValue.{LoopValue, IsValid}
 use Rattle.sil_model.specs.Budget.{pfd_width_of, pfh_width_of}
@@ -21,7 +21,8 @@ use Rattle.sil_watch.specs.Watching.{WatcherValue}
 use Rattle.sil_words.specs.declared.ask.Ask.{Ask}
 use Rattle.loop_value.specs.Records.{HasFed}
 use Rattle.sil_top.specs.Report.{counts_of, IsTrueReport, ReportsFixFigures}
-use Rattle.sil_top.specs.Run.{Outcome, IsReported, is_shown}
+use Rattle.sil_report.specs.Texts.{limit_fault_line_of}
+use Rattle.sil_top.specs.Run.{Outcome, IsCalledBy, IsReported, is_shown, within_limits, without_limit}
 use Rattle.sil_top.specs.declared.Status.TheVariants.{Done, NotShown}
 use Rattle.sil_top.proofs.Bands.{one_band}
 
@@ -43,10 +44,11 @@ true_report l valid within v text is pfd pfh narrow_pfd narrow_pfh phases states
     pfd = record { lo = v.pfd.lo; hi = v.pfd.hi; band = is.pfd_band };
     pfh = record { lo = v.pfh.lo; hi = v.pfh.hi; band = is.pfh_band };
     printed = rw (phases, states, beats, order) at is.printed;
+    encloses_pfd = pfd;
+    encloses_pfh = pfh;
     true_pfd = record {
       ordered = v.pfd.ordered;
       printable = v.pfd.printable;
-      encloses = pfd;
       exact = exact_inside Pfd l valid l.order v.pfd.lo v.pfd.hi pfd;
       narrow = narrow_pfd;
       is_band = is.is_pfd;
@@ -54,7 +56,6 @@ true_report l valid within v text is pfd pfh narrow_pfd narrow_pfh phases states
     true_pfh = record {
       ordered = v.pfh.ordered;
       printable = v.pfh.printable;
-      encloses = pfh;
       exact = exact_inside Pfh l valid l.order v.pfh.lo v.pfh.hi pfh;
       narrow = narrow_pfh;
       is_band = is.is_pfh;
@@ -65,7 +66,8 @@ true_report l valid within v text is pfd pfh narrow_pfd narrow_pfh phases states
   pfh_band = refl;
 }
 
--- a true report under the status of its bands, which are those of the value, and the lines of watchers behind it, where the order is known by another name
+-- a true report, which shows what is needed where the bands of the value do, and the lines of watchers behind it, where the order
+-- is known by another name
 pub reported : (a : Ask) (l : LoopValue) → IsValid l → (order : ℕ) → order ≡ l.order → first_limit_of l order ≡ None → (v : Value) (o : Outcome)
     → (before after : List WatcherValue) → HasFed l order (length (phases_of l)) a.watch before after
     → (front : List ℕ) × IsReport l.mission v front × (o.text ≡ front ++ lines_of_all a.watch after)
@@ -73,21 +75,33 @@ pub reported : (a : Ask) (l : LoopValue) → IsValid l → (order : ℕ) → ord
     → v.pfd.hi ≤ v.pfd.lo + pfd_width_of l order → v.pfh.hi ≤ v.pfh.lo + pfh_width_of l order
     → v.phases ≡ length (phases_of l) → v.states ≡ states_of l.subsystems → v.beats ≡ all_beats_of l → v.order ≡ order
     → (pfd pfh : Band) → IsBandOf pfd_edge v.pfd.lo v.pfd.hi pfd → IsBandOf pfh_edge v.pfh.lo v.pfh.hi pfh
-    → o.status ≡ (if is_shown a.need a.mode pfd pfh then Done else NotShown) → IsReported before a l o
+    → o.status ≡ (if is_shown a.need a.mode pfd pfh then Done else NotShown) → IsCalledBy true (within_limits l (IsReported before a l)) o
 reported a l valid order same within v o before after fed (front, is, printed) in_pfd in_pfh narrow_pfd narrow_pfh phases states beats is_order pfd pfh is_pfd is_pfh status =
-    let r = true_report l valid (rw same at within) v front is (rw same at in_pfd) (rw same at in_pfh) (rw same at narrow_pfd) (rw same at narrow_pfh)
+    let none : first_limit_of l l.order ≡ None = rw same at within in
+    let r = true_report l valid none v front is (rw same at in_pfd) (rw same at in_pfh) (rw same at narrow_pfd) (rw same at narrow_pfh)
     phases states beats (is_order ∙ same) in
     let first : pfd ≡ r.report.pfd.band = one_band pfd_edge v.pfd.lo v.pfd.hi pfd is.pfd_band is_pfd is.is_pfd ∙ sym r.pfd_band in
     let second : pfh ≡ r.report.pfh.band = one_band pfh_edge v.pfh.lo v.pfh.hi pfh is.pfh_band is_pfh is.is_pfh ∙ sym r.pfh_band in
-    record {
-      front = front;
-      lines = lines_of_all a.watch after;
-      printed = printed;
-      report = r.report;
-      told = record { after = after; fed = rw same at fed; printed = refl };
-      status = status ∙ ap (λ (b : Band). if is_shown a.need a.mode b pfh then Done else NotShown) first
-          ∙ ap (λ (b : Band). if is_shown a.need a.mode r.report.pfd.band b then Done else NotShown) second;
-    }
+    inr (
+      ap (option_map limit_fault_line_of) none,
+      is_shown a.need a.mode pfd pfh,
+      record {
+        front = front;
+        lines = lines_of_all a.watch after;
+        printed = printed;
+        report = r.report;
+        told = record { after = after; fed = rw same at fed; printed = refl };
+        bands = ap (λ (b : Band). is_shown a.need a.mode b pfh) first ∙ ap (λ (b : Band). is_shown a.need a.mode r.report.pfd.band b) second;
+      },
+      status,
+    )
+
+-- the report of a loop that is within all limits
+pub reported_within : (before : List WatcherValue) (a : Ask) (l : LoopValue) (o : Outcome) → first_limit_of l l.order ≡ None
+    → IsCalledBy true (within_limits l (IsReported before a l)) o → IsCalledBy false (without_limit (IsReported before a l)) o
+reported_within before a l o within (inl (reads, refusal, status)) =
+    let none : Some o.text ≡ None = sym refusal ∙ ap (option_map limit_fault_line_of) within in absurd (cc)
+reported_within before a l o within (inr (passes, shown, answer, status)) = inr (refl, shown, answer, status)
 
 -- the intervals are read back from the last two lines, whatever is behind them
 module _ (l : LoopValue) (s t more_s more_t : List ℕ) (a : IsTrueReport l s) (b : IsTrueReport l t) (same : s ++ more_s ≡ t ++ more_t) where

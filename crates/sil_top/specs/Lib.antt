@@ -1,5 +1,6 @@
 pub mod Causes
 pub mod Complete
 pub mod Program
+pub mod Promises
 pub mod Report
 pub mod Run

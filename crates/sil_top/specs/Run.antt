@@ -1,9 +1,9 @@
 -- What a run calls for: a status, and the text that is written whole under it.
-use Rattle.std.specs.Prelude.{◌≡◌, ℕ, ◌<◌, ◌≤◌, Bool, true, false, ◌&&◌, IsTrue, ◌⊎◌, List, ◌++◌, length, Option, Some, None, if◌then◌else◌}
+use Rattle.std.specs.Prelude.{◌≡◌, ℕ, ◌<◌, ◌≤◌, Bool, true, false, ◌&&◌, IsTrue, ◌⊎◌, List, ◌++◌, length, Option, Some, None, option_map, if◌then◌else◌}
+use Rattle.std.specs.List.{list_any}
 use Rattle.sil_model.specs.LoopValue.{LoopValue}
 use Rattle.sil_model.specs.Sizes.{first_limit_of, most_file_bytes}
 use Rattle.sil_model.specs.declared.answers.Band.{Band}
-use Rattle.sil_model.specs.declared.answers.LimitFault.{LimitFault}
 use Rattle.file_fault.specs.declared.FileFault.{FileFault}
 use Rattle.loop_file.specs.Tree.{tree_of}
 use Rattle.loop_file.specs.LoopFile.{IsLoopOf, HasFault}
@@ -15,6 +15,9 @@ use Rattle.sil_bands.specs.Meets.{meets_of}
 use Rattle.sil_io.specs.Handed.{Handed, nothing_handed, just_picked, HandsMoreThan, HandsAtMost}
 use Rattle.verb_table.specs.Table.{verb_table}
 use Rattle.verb_table.specs.Usage.{usage_text}
+use Rattle.verb_table.specs.contracts.verb.PositionalPartialEq.TheImpl as positional_equality
+use Rattle.verb_table.specs.contracts.verb.VerbPartialEq.TheImpl as verb_equality
+use Rattle.verb_table.specs.declared.verb.Positional.TheVariants.{Name}
 use Rattle.verb_table.specs.declared.verb.Verb.{Verb}
 use Rattle.verb_table.specs.declared.verb.Verb.TheVariants.{Check, Size, Gen, Bench}
 use Rattle.sil_words.specs.Language.{Asks, IsInLanguage}
@@ -31,7 +34,21 @@ pub record Outcome : Type 0 where
   pub status : Status
   pub text : List ℕ
 
--- What a loop calls for.
+-- ---- what a loop calls for, by each verb
+
+-- what a verb makes of a loop: the line by which it refuses it, if it does, and what holds of the text else, and of whether
+-- what is needed is shown
+pub record LoopCalls : Type 1 where
+  pub refusal : Option (List ℕ)
+  pub answer : Bool → List ℕ → Type 0
+
+-- a loop that exceeds a limit is refused by the line of the first
+abbrev pub within_limits : LoopValue → (Bool → List ℕ → Type 0) → LoopCalls
+within_limits l answer = record { refusal = option_map limit_fault_line_of (first_limit_of l l.order); answer = answer }
+
+-- no loop is refused
+abbrev pub without_limit : (Bool → List ℕ → Type 0) → LoopCalls
+without_limit answer = record { refusal = None; answer = answer }
 
 -- the asked bands, of that of PFDavg and that of PFH, show the level that is needed, if one is
 abbrev pub is_shown : Option ℕ → Mode → Band → Band → Bool
@@ -40,38 +57,45 @@ is_shown (Some need) Low pfd pfh = meets_of pfd need
 is_shown (Some need) High pfd pfh = meets_of pfh need
 is_shown (Some need) Both pfd pfh = meets_of pfd need && meets_of pfh need
 
--- the report of the loop, and behind it what watchers tell of its phases, which were `before` before the run; the status says
--- whether the printed bands show what is needed
-pub record IsReported (before : List WatcherValue) (a : Ask) (l : LoopValue) (o : Outcome) : Type 0 where
+-- the report of the loop, and behind it what watchers tell of its phases, which were `before` before the run; the printed bands
+-- show what is needed, or do not
+pub record IsReported (before : List WatcherValue) (a : Ask) (l : LoopValue) (shown : Bool) (text : List ℕ) : Type 0 where
   pub front : List ℕ
   pub lines : List ℕ
-  pub printed : o.text ≡ front ++ lines
+  pub printed : text ≡ front ++ lines
   pub report : IsTrueReport l front
   pub told : IsToldOfPhases l a.watch before lines
-  pub status : o.status ≡ (if is_shown a.need a.mode report.pfd.band report.pfh.band then Done else NotShown)
+  pub bands : shown ≡ is_shown a.need a.mode report.pfd.band report.pfh.band
 
 -- the sizes of the loop, which is within all limits
-pub record IsSized (l : LoopValue) (o : Outcome) : Type 0 where
-  pub status : o.status ≡ Done
+pub record IsSized (l : LoopValue) (shown : Bool) (text : List ℕ) : Type 0 where
+  pub done : shown ≡ true
   pub within : first_limit_of l l.order ≡ None
-  pub printed : o.text ≡ size_text_of l (sizes_of l l.order)
+  pub printed : text ≡ size_text_of l (sizes_of l l.order)
 
 -- the canonical loop file of the loop, byte by byte: it is no longer than a loop file may be, and reads back as this loop
-pub record IsPrinted (l : LoopValue) (o : Outcome) : Type 0 where
-  pub status : o.status ≡ Done
-  pub bytes : o.text ≡ canonical_text l
-  pub short : length o.text ≤ most_file_bytes
-  pub canonical : tree_of o.text ≡ Some (canonical_of l)
-  pub reads_back : IsLoopOf o.text l
+pub record IsPrinted (l : LoopValue) (shown : Bool) (text : List ℕ) : Type 0 where
+  pub done : shown ≡ true
+  pub bytes : text ≡ canonical_text l
+  pub short : length text ≤ most_file_bytes
+  pub canonical : tree_of text ≡ Some (canonical_of l)
+  pub reads_back : IsLoopOf text l
 
--- the first limit that the loop exceeds
-pub record IsOverLimit (l : LoopValue) (o : Outcome) : Type 0 where
-  pub status : o.status ≡ FileRefused
-  pub fault : LimitFault
-  pub first : first_limit_of l l.order ≡ Some fault
-  pub printed : o.text ≡ limit_fault_line_of fault
+-- what each verb makes of a loop, where the watchers were `before`
+abbrev pub loop_calls : List WatcherValue → Ask → LoopValue → Verb → LoopCalls
+loop_calls before a l Check = within_limits l (IsReported before a l)
+loop_calls before a l Size = within_limits l (IsSized l)
+loop_calls before a l Gen = without_limit (IsPrinted l)
+loop_calls before a l Bench = without_limit (IsReported before a l)
 
--- What a file calls for: what the shelf tells of its files, what it handed out, and the name of the file.
+-- the loop is that of a file, and the verb refuses it; or the verb does not refuse it, and the text is the verb's
+abbrev pub IsCalledBy : Bool → LoopCalls → Outcome → Type 0
+IsCalledBy of_file calls o =
+    ((of_file ≡ true) × (calls.refusal ≡ Some o.text) × (o.status ≡ FileRefused))
+    ⊎ ((calls.refusal ≡ None) × (shown : Bool) × calls.answer shown o.text × (o.status ≡ (if shown then Done else NotShown)))
+
+-- ---- what a file calls for: what the shelf tells of its files, what it handed out, and the name of the file
+
 module _ (tells : Bool) (file : List ℕ → Option (List ℕ)) (handed : Handed) (name : List ℕ) where
   -- the file has just these bytes, all of them were handed out, and they are not too many
   pub record IsHandedWhole (bytes : List ℕ) : Type 0 where
@@ -107,59 +131,54 @@ module _ (tells : Bool) (file : List ℕ → Option (List ℕ)) (handed : Handed
     pub whole : IsHandedWhole bytes
     pub is_loop : IsLoopOf bytes l
 
-  -- what a loop calls for that is within the limits, if the file is refused neither for itself nor for its loop
-  abbrev pub IsOfFile : (LoopValue → Outcome → Type 0) → Outcome → Type 0
-  IsOfFile P o = IsTooLong o ⊎ IsFaulty o ⊎ ((l : LoopValue) × IsFileOf l × (IsOverLimit l o ⊎ P l o))
-
   -- no file is picked, or of this one no more was handed out than a loop file has
   abbrev pub IsHandedInPart : Type 0
   IsHandedInPart = (handed ≡ nothing_handed) ⊎ (HandsAtMost most_file_bytes (just_picked name) handed × (IsTrue tells → IsFront))
 
--- the verbs that read a file
-abbrev pub takes_file : Verb → Bool
-takes_file Check = true
-takes_file Size = true
-takes_file Gen = false
-takes_file Bench = false
+-- ---- what the words call for
 
--- What a run calls for: the watchers before it, what the shelf tells of its files, and what it handed out.
-module _ (before : List WatcherValue) (tells : Bool) (file : List ℕ → Option (List ℕ)) (handed : Handed) where
-  -- what is asked for
-  abbrev pub VerbCallsFor : Verb → Ask → Outcome → Type 0
-  VerbCallsFor Check a o = IsOfFile tells file handed a.name (IsReported before a) o
-  VerbCallsFor Size a o = IsOfFile tells file handed a.name IsSized o
-  VerbCallsFor Gen a o = IsPrinted (drawn_of a.number) o
-  VerbCallsFor Bench a o = IsReported before a (drawn_of a.number) o
+-- a verb reads a file where its row in the table of verbs has a name
+abbrev pub reads_file : Verb → Bool
+reads_file verb = list_any (λ row. (verb_equality.ghosts).eq row.verb verb && (positional_equality.ghosts).eq row.positional Name) verb_table
 
-  -- what the words call for, which are in the language
-  pub record IsAnswer (words : List (List ℕ)) (o : Outcome) : Type 0 where
-    pub asked : Ask
-    pub asks : Asks words asked
-    pub answer : VerbCallsFor asked.verb asked o
+-- what is seen of a run: its watchers before it, what the shelf tells of its files, and what it handed out
+pub record Seen : Type 0 where
+  pub watchers : List WatcherValue
+  pub tells : Bool
+  pub file : List ℕ → Option (List ℕ)
+  pub handed : Handed
 
-  -- the words are not in the language
-  pub record IsUsage (words : List (List ℕ)) (o : Outcome) : Type 0 where
-    pub status : o.status ≡ Usage
-    pub outside : IsInLanguage words → ⊥
-    pub printed : o.text ≡ usage_text verb_table
-
-  abbrev pub CallsFor : List (List ℕ) → Outcome → Type 0
-  CallsFor words o = IsUsage words o ⊎ IsAnswer words o
-
--- what is called for under this status was written: the sink took the whole text, and holds it if it tells what it holds
-abbrev pub IsWritten : (Outcome → Type 0) → Bool → List ℕ → List ℕ → List ℕ → List ℕ → Status → Type 0
-IsWritten calls tells taken taken_now written written_now status =
-    (text : List ℕ) × calls (record { status = status; text = text }) × (taken_now ≡ taken ++ text) × (IsTrue tells → written_now ≡ written ++ text)
-
--- the words ask for a file, and the run ended with no more of it handed out than a loop file has
-pub record IsStopped (tells : Bool) (file : List ℕ → Option (List ℕ)) (handed : Handed) (words : List (List ℕ)) : Type 0 where
-  pub asked : Ask
-  pub asks : Asks words asked
-  pub of_file : takes_file asked.verb ≡ true
-  pub is_handed : IsHandedInPart tells file handed asked.name
+-- the words are not in the language
+pub record IsUsage (words : List (List ℕ)) (o : Outcome) : Type 0 where
+  pub status : o.status ≡ Usage
+  pub outside : IsInLanguage words → ⊥
+  pub printed : o.text ≡ usage_text verb_table
 
 -- the words ask for a file
 pub record IsFileAsked (words : List (List ℕ)) : Type 0 where
   pub asked : Ask
   pub asks : Asks words asked
-  pub of_file : takes_file asked.verb ≡ true
+  pub of_file : reads_file asked.verb ≡ true
+
+module _ (seen : Seen) where
+  -- the file that is asked for is refused for itself
+  abbrev pub IsRefusedFor : Ask → Outcome → Type 0
+  IsRefusedFor a o = (reads_file a.verb ≡ true)
+      × (IsTooLong seen.tells seen.file seen.handed a.name o ⊎ IsFaulty seen.tells seen.file seen.handed a.name o)
+
+  -- the loop that is asked for: that of the file, or else the one that is drawn from the number
+  pub record IsLoopFor (a : Ask) (l : LoopValue) : Type 0 where
+    pub of_file : reads_file a.verb ≡ true → IsFileOf seen.tells seen.file seen.handed a.name l
+    pub drawn : reads_file a.verb ≡ false → l ≡ drawn_of a.number
+
+  -- the usage text; or what the file calls for, or what its loop calls for by the verb
+  abbrev pub CallsFor : List (List ℕ) → Outcome → Type 0
+  CallsFor words o = IsUsage words o
+      ⊎ ((a : Ask) × Asks words a × (IsRefusedFor a o ⊎ ((l : LoopValue) × IsLoopFor a l × IsCalledBy (reads_file a.verb) (loop_calls seen.watchers a l a.verb) o)))
+
+  -- the words ask for a file, and the run ended with no more of it handed out than a loop file has
+  pub record IsStopped (words : List (List ℕ)) : Type 0 where
+    pub asked : Ask
+    pub asks : Asks words asked
+    pub of_file : reads_file asked.verb ≡ true
+    pub is_handed : IsHandedInPart seen.tells seen.file seen.handed asked.name

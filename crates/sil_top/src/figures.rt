@@ -1,11 +1,11 @@
 //! The report of a loop's figures, and whether they show the level that is needed.
 
-ghost use Rattle.std.specs.Prelude.{◌≡◌, ◌<◌, ◌++◌, ◌⊎◌, ℕ, List, map, IfOk, IfSome, if◌then◌else◌};
+ghost use Rattle.std.specs.Prelude.{◌≡◌, ◌<◌, ◌++◌, true, ℕ, List, map, IfOk, IfSome, if◌then◌else◌};
 ghost use Rattle.sil_report.specs.Reports.{IsReport};
 ghost use Rattle.sil_watch.specs.Lines.{lines_of_all};
 ghost use Rattle.sil_words.specs.Language.{IsLevel};
 ghost use Rattle.sil_top.specs.Report.{ReportsFixFigures, SeriesTells};
-ghost use Rattle.sil_top.specs.Run.{IsOverLimit, IsReported, is_shown};
+ghost use Rattle.sil_top.specs.Run.{IsCalledBy, IsReported, is_shown, within_limits};
 ghost use Rattle.sil_top.specs.Causes.{outcome_of};
 
 use crate::Status;
@@ -28,7 +28,7 @@ pub fn report_of(
     watchers: &mut [Box<dyn Watcher>],
 ) -> Result<Answer, AllocError>
     requires { IfSome ask.now.need IsLevel }
-    ensures { IfOk result (λ x. IsOverLimit l.now (outcome_of x) ⊎ IsReported (map (λ w. watcher_value w) watchers.old) ask.now l.now (outcome_of x)) }
+    ensures { IfOk result (λ x. IsCalledBy true (within_limits l.now (IsReported (map (λ w. watcher_value w) watchers.old) ask.now l.now)) (outcome_of x)) }
 {
     evaluate::<Brand>(alloc, l, ask, watchers, Blank::new(1))
 }
@@ -45,7 +45,7 @@ fn evaluate<L: Ledger>(
     requires parts { blank.parts ≡ L.parts }
     requires some { 0 < blank.parts }
     requires level { IfSome ask.now.need IsLevel }
-    ensures { IfOk result (λ x. IsOverLimit l.now (outcome_of x) ⊎ IsReported (map (λ w. watcher_value w) watchers.old) ask.now l.now (outcome_of x)) }
+    ensures { IfOk result (λ x. IsCalledBy true (within_limits l.now (IsReported (map (λ w. watcher_value w) watchers.old) ask.now l.now)) (outcome_of x)) }
 {
     // The values of a loop are in their ranges.
     let _ = l.mission();

@@ -1,99 +1,60 @@
-//! The verbs: what the words call for.
+//! The verbs: what each makes of its loop.
 
-ghost use Rattle.std.specs.Prelude.{◌≡◌, ◌⊎◌, ℕ, List, [], ◌∷◌, ◌++◌, true, map, string_bytes, IsTrue, IsSome, IfOk, IfErr, IfSome, IsErrOf};
-ghost use Rattle.sil_words.specs.Language.{Asks};
-ghost use Rattle.sil_words.specs.declared.ask.Ask.{Ask};
-ghost use Rattle.sil_top.specs.Complete.{IsHeld};
-ghost use Rattle.loop_gen.specs.Drawn.{drawn_of};
+ghost use Rattle.std.specs.Prelude.{◌≡◌, true, false, map, IfOk, IfSome, None};
+ghost use Rattle.sil_model.specs.Sizes.{first_limit_of};
 ghost use Rattle.sil_words.specs.Language.{IsLevel};
-ghost use Rattle.sil_top.specs.Run.{CallsFor, IsFileAsked, IsOfFile, IsOverLimit, IsPrinted, IsReported, IsSized};
-ghost use Rattle.sil_top.specs.Causes.{outcome_of, IsFileFault, HasCause};
+ghost use Rattle.sil_top.specs.Run.{IsCalledBy, IsPrinted, IsReported, IsSized, loop_calls, reads_file, within_limits, without_limit};
+ghost use Rattle.sil_top.specs.Causes.{outcome_of};
 
 use crate::Status;
-use crate::answer::{Answer, Fault};
+use crate::answer::Answer;
 use crate::figures::report_of;
-use crate::load::load;
-use loop_gen::make_loop;
 use loop_print::print_loop;
 use loop_value::{ValueFault, measure};
-use sil_io::Shelf;
 use sil_model::Loop;
 use sil_report::{limit_fault_text, size_text};
 use sil_watch::Watcher;
-use sil_words::{Ask, Verb, WordFault, read_words};
+use sil_words::{Ask, Verb};
 use std::alloc::{AllocError, Global};
+use verb_table::{Positional, verb_rows};
 
-/// What the words call for.
-pub fn answer_to<S: Shelf>(
-    alloc: Global,
-    words: &[String],
-    shelf: &mut S,
-    watchers: &mut [Box<dyn Watcher>],
-) -> Result<Answer, Fault>
-    ensures answer { IfOk result (λ x. CallsFor (map (λ w. watcher_value w) watchers.old) S.tells (S.file shelf.old) (S.handed shelf.new) (map string_bytes words.now) (outcome_of x)) }
-    ensures cause { IfErr result (HasCause (map (λ w. watcher_value w) watchers.old) S.tells (S.file shelf.old) (S.handed shelf.new) (map string_bytes words.now) (S.handed shelf.old) (S.faults shelf.old) (S.faults shelf.new)) }
-    ensures untouched { (IsFileAsked (map string_bytes words.now) → ⊥) → shelf.new ≡ shelf.old }
-    ensures files_stay { IsTrue S.tells → (name : List ℕ) → S.file shelf.new name ≡ S.file shelf.old name }
-    ensures picked_once { (a : Ask) → Asks (map string_bytes words.now) a
-        → (shelf.new ≡ shelf.old) ⊎ (S.tried shelf.new ≡ S.tried shelf.old ++ a.name ∷ []) }
-    ensures noted { IsErrOf result Fault.Read → S.failed shelf.new ≡ true }
-    ensures fault_of_name { IsErrOf result Fault.Read → (a : Ask) → Asks (map string_bytes words.now) a → S.tried shelf.new ≡ S.tried shelf.old ++ a.name ∷ [] }
-    ensures calm_stays { S.calm shelf.old → S.calm shelf.new }
-    ensures calm_count { S.calm shelf.old → IsHeld (S.file shelf.old) (map string_bytes words.now) → S.faults shelf.new ≡ S.faults shelf.old }
-    ensures calm_reads { S.calm shelf.old → IsHeld (S.file shelf.old) (map string_bytes words.now) → IsErrOf result Fault.Read → ⊥ }
+/// Whether a verb reads a file: whether its row in the table has a name.
+#[tactic(auto, using(crate::proofs::FileRows::next_row))]
+pub fn reads_file(verb: Verb) -> bool
+    ensures { result ≡ reads_file verb }
 {
-    let ask = match read_words(alloc, words) {
-        Ok(ask) => ask,
-        Err(WordFault::Usage) => return Err(Fault::Usage),
-        Err(WordFault::Memory(e)) => return Err(Fault::Memory(e)),
-    };
-    match ask.verb {
-        Verb::Check => check(alloc, &ask, shelf, watchers),
-        Verb::Size => size(alloc, &ask, shelf),
-        Verb::Gen => draw(alloc, &ask).map_err(Fault::Memory),
-        Verb::Bench => bench(alloc, &ask, watchers).map_err(Fault::Memory),
+    let rows = verb_rows();
+    for row in rows {
+        if row.verb == verb && row.positional == Positional::Name {
+            return true;
+        }
     }
+    false
 }
 
-/// The report of the loop of a file.
-fn check<S: Shelf>(
+/// What the verb makes of its loop. A loop of no file is within all limits.
+#[tactic(auto, unfolding(verb_table::specs::Table::verb_table))]
+pub fn answer_of(
     alloc: Global,
+    l: &Loop,
     ask: &Ask,
-    shelf: &mut S,
     watchers: &mut [Box<dyn Watcher>],
-) -> Result<Answer, Fault>
-    requires { IfSome ask.now.need IsLevel }
-    ensures answer { IfOk result (λ x. IsOfFile S.tells (S.file shelf.old) (S.handed shelf.new) ask.now.name (IsReported (map (λ w. watcher_value w) watchers.old) ask.now) (outcome_of x)) }
-    ensures fault { IfErr result (IsFileFault S.tells (S.file shelf.old) (S.handed shelf.new) ask.now.name (S.faults shelf.old) (S.faults shelf.new)) }
-    ensures files_stay { IsTrue S.tells → (name : List ℕ) → S.file shelf.new name ≡ S.file shelf.old name }
-    ensures tried { S.tried shelf.new ≡ S.tried shelf.old ++ ask.now.name ∷ [] }
-    ensures noted { IsErrOf result Fault.Read → S.failed shelf.new ≡ true }
-    ensures calm_stays { S.calm shelf.old → S.calm shelf.new }
-    ensures calm_count { S.calm shelf.old → IsSome (S.file shelf.old ask.now.name) → S.faults shelf.new ≡ S.faults shelf.old }
-    ensures calm_reads { S.calm shelf.old → IsSome (S.file shelf.old ask.now.name) → IsErrOf result Fault.Read → ⊥ }
+) -> Result<Answer, AllocError>
+    requires level { IfSome ask.now.need IsLevel }
+    requires within { reads_file ask.now.verb ≡ false → first_limit_of l.now l.now.order ≡ None }
+    ensures { IfOk result (λ x. IsCalledBy (reads_file ask.now.verb) (loop_calls (map (λ w. watcher_value w) watchers.old) ask.now l.now ask.now.verb) (outcome_of x)) }
 {
-    let l = load(alloc, ask.name.as_str(), shelf)?;
-    report_of(alloc, &l, ask, watchers).map_err(Fault::Memory)
-}
-
-/// The sizes of the loop of a file.
-fn size<S: Shelf>(alloc: Global, ask: &Ask, shelf: &mut S) -> Result<Answer, Fault>
-    ensures answer { IfOk result (λ x. IsOfFile S.tells (S.file shelf.old) (S.handed shelf.new) ask.now.name IsSized (outcome_of x)) }
-    ensures fault { IfErr result (IsFileFault S.tells (S.file shelf.old) (S.handed shelf.new) ask.now.name (S.faults shelf.old) (S.faults shelf.new)) }
-    ensures files_stay { IsTrue S.tells → (name : List ℕ) → S.file shelf.new name ≡ S.file shelf.old name }
-    ensures tried { S.tried shelf.new ≡ S.tried shelf.old ++ ask.now.name ∷ [] }
-    ensures noted { IsErrOf result Fault.Read → S.failed shelf.new ≡ true }
-    ensures calm_stays { S.calm shelf.old → S.calm shelf.new }
-    ensures calm_count { S.calm shelf.old → IsSome (S.file shelf.old ask.now.name) → S.faults shelf.new ≡ S.faults shelf.old }
-    ensures calm_reads { S.calm shelf.old → IsSome (S.file shelf.old ask.now.name) → IsErrOf result Fault.Read → ⊥ }
-{
-    let l = load(alloc, ask.name.as_str(), shelf)?;
-    sizes_of(alloc, &l).map_err(Fault::Memory)
+    match ask.verb {
+        Verb::Check => report_of(alloc, l, ask, watchers),
+        Verb::Size => sizes_of(alloc, l),
+        Verb::Gen => file_of(alloc, l),
+        Verb::Bench => report_within(alloc, l, ask, watchers),
+    }
 }
 
 /// The sizes of a loop, or the first limit that it exceeds.
 fn sizes_of(alloc: Global, l: &Loop) -> Result<Answer, AllocError>
-    ensures { IfOk result (λ x. IsOverLimit l.now (outcome_of x) ⊎ IsSized l.now (outcome_of x)) }
+    ensures { IfOk result (λ x. IsCalledBy true (within_limits l.now (IsSized l.now)) (outcome_of x)) }
 {
     match measure(alloc, l, l.order()) {
         Ok(sizes) => Ok(Answer {
@@ -108,22 +69,26 @@ fn sizes_of(alloc: Global, l: &Loop) -> Result<Answer, AllocError>
     }
 }
 
-/// The loop file of the loop that is drawn from a number.
-fn draw(alloc: Global, ask: &Ask) -> Result<Answer, AllocError>
-    ensures { IfOk result (λ x. IsPrinted (drawn_of ask.now.number) (outcome_of x)) }
+/// The loop file of a loop.
+fn file_of(alloc: Global, l: &Loop) -> Result<Answer, AllocError>
+    ensures { IfOk result (λ x. IsCalledBy false (without_limit (IsPrinted l.now)) (outcome_of x)) }
 {
-    let drawn = make_loop(alloc, ask.number)?;
     Ok(Answer {
         status: Status::Done,
-        text: print_loop(alloc, &drawn)?,
+        text: print_loop(alloc, l)?,
     })
 }
 
-/// The report of the loop that is drawn from a number.
-fn bench(alloc: Global, ask: &Ask, watchers: &mut [Box<dyn Watcher>]) -> Result<Answer, AllocError>
-    requires { IfSome ask.now.need IsLevel }
-    ensures { IfOk result (λ x. IsReported (map (λ w. watcher_value w) watchers.old) ask.now (drawn_of ask.now.number) (outcome_of x)) }
+/// The report of a loop that is within all limits.
+fn report_within(
+    alloc: Global,
+    l: &Loop,
+    ask: &Ask,
+    watchers: &mut [Box<dyn Watcher>],
+) -> Result<Answer, AllocError>
+    requires level { IfSome ask.now.need IsLevel }
+    requires within { first_limit_of l.now l.now.order ≡ None }
+    ensures { IfOk result (λ x. IsCalledBy false (without_limit (IsReported (map (λ w. watcher_value w) watchers.old) ask.now l.now)) (outcome_of x)) }
 {
-    let l = make_loop(alloc, ask.number)?;
-    report_of(alloc, &l, ask, watchers)
+    report_of(alloc, l, ask, watchers)
 }
