@@ -1,7 +1,15 @@
 //! The shelf and the sink in memory.
 use super::{TEXT, is_written, picks, read, written};
 use sil_io::{MemShelf, MemSink, ReadFault, Shelf};
+use std::alloc::{AllocError, Global};
 use std::test::Fail;
+
+/// A shelf with the text as its one file, `loop`.
+fn shelf_with_loop(alloc: Global) -> Result<MemShelf, AllocError> {
+    let mut shelf = MemShelf::new(alloc);
+    shelf.put("loop", TEXT)?;
+    Ok(shelf)
+}
 
 #[test]
 fn reads_a_picked_file_of_at_most_the_limit(rt: HostRuntime) -> Result<(), Fail> {
@@ -19,10 +27,13 @@ fn reads_a_picked_file_of_at_most_the_limit(rt: HostRuntime) -> Result<(), Fail>
         ("empty", true, 0, Some(b"")),
     ] {
         assert_eq!(rt; picks(&mut shelf, name), picked, "{name}");
-        match (read(rt.alloc(), &mut shelf, limit), want) {
-            (Ok(bytes), Some(want)) => assert_eq!(rt; bytes.as_slice(), want, "{name} to {limit}"),
-            (Err(ReadFault::TooLong), None) => {}
-            _ => panic!(rt; "{name} to {limit}"),
+        let outcome = read(rt.alloc(), &mut shelf, limit);
+        match want {
+            Some(want) => assert_eq!(rt; outcome?.as_slice(), want, "{name} to {limit}"),
+            None => assert!(rt;
+                matches!(outcome, Err(ReadFault::TooLong)),
+                "{name} to {limit}"
+            ),
         }
     }
     Ok(())
@@ -30,8 +41,7 @@ fn reads_a_picked_file_of_at_most_the_limit(rt: HostRuntime) -> Result<(), Fail>
 
 #[test]
 fn nothing_is_read_without_a_picked_file(rt: HostRuntime) -> Result<(), Fail> {
-    let mut shelf = MemShelf::new(rt.alloc());
-    shelf.put("loop", TEXT)?;
+    let mut shelf = shelf_with_loop(rt.alloc())?;
     assert!(rt; picks(&mut shelf, "loop"));
     shelf.put("other", b"")?;
     assert_eq!(rt; read(rt.alloc(), &mut shelf, 9)?.len(), 0);
@@ -47,8 +57,7 @@ fn nothing_is_read_without_a_picked_file(rt: HostRuntime) -> Result<(), Fail> {
 #[test]
 fn the_planned_read_fails_and_no_other(rt: HostRuntime) -> Result<(), Fail> {
     for planned in 0..8u32 {
-        let mut shelf = MemShelf::new(rt.alloc());
-        shelf.put("loop", TEXT)?;
+        let mut shelf = shelf_with_loop(rt.alloc())?;
         shelf.fail_read_at(1);
         shelf.fail_read_at(planned);
         assert!(rt; picks(&mut shelf, "loop"));
@@ -72,8 +81,7 @@ fn the_planned_read_fails_and_no_other(rt: HostRuntime) -> Result<(), Fail> {
 #[test]
 fn a_file_whose_read_fails_is_not_read_whole(rt: HostRuntime) -> Result<(), Fail> {
     for planned in 1..5u32 {
-        let mut shelf = MemShelf::new(rt.alloc());
-        shelf.put("loop", TEXT)?;
+        let mut shelf = shelf_with_loop(rt.alloc())?;
         shelf.fail_read_at(planned);
         // two reads each: the whole file, and its end
         for file in 0..2u32 {
@@ -93,7 +101,7 @@ fn a_file_whose_read_fails_is_not_read_whole(rt: HostRuntime) -> Result<(), Fail
 
 /// Whether the text is not written whole, and the sink holds so many bytes of it.
 fn stops_after(sink: &mut MemSink, taken: usize) -> bool {
-    !is_written(sink) && sink.bytes().len() == taken && TEXT.starts_with(sink.bytes())
+    taken < TEXT.len() && !is_written(sink) && sink.bytes() == &TEXT[..taken]
 }
 
 #[test]
