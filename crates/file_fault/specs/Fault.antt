@@ -5,7 +5,7 @@ use Rattle.sil_text.specs.Fault.{text_fault_of}
 use Rattle.file_fault.specs.declared.FileFault.{FileFault}
 use Rattle.file_fault.specs.declared.FileFault.TheVariants.{Memory, NotToml, BadVersion, UnknownKey, Missing, WrongKind, BadText, OutOfRange, BadVote, SameName, UnknownType}
 
--- what is wrong with a loop file, and the path of the place; want of memory is no fault of the file
+-- what is wrong with a loop file, and the path of the place; out of memory is no fault of the file
 abbrev pub fault_of : FileFault → List ℕ
 fault_of (Memory e) = codes "out of memory"
 fault_of NotToml = codes "not TOML"

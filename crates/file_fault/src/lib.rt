@@ -7,9 +7,9 @@ use std::alloc::AllocError;
 use std::error::Error;
 use std::fmt;
 
-/// The first fault of a loop file, with the path of its place, or want of memory.
+/// The first fault of a loop file, with the path of its place, or out of memory.
 ///
-/// As numbers the faults but want of memory are 1 to 10. Its words, by `Display`, are those of the line that the program
+/// As numbers the faults but `Memory` are 1 to 10. Its words, by `Display`, are those of the line that the program
 /// prints.
 #[derive(Drop)]
 pub enum FileFault {

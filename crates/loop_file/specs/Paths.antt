@@ -49,6 +49,6 @@ abbrev pub IsReadAt : {A : Type 0} → Place → List ℕ → Result A Flaw → 
 IsReadAt place key reading (Ok x) = reading ≡ Ok x
 IsReadAt place key reading (Err e) = IsMemory e ⊎ (check_at (path_of place key) reading ≡ Some e)
 
--- want of memory, or the flaw's fault at the key
+-- out of memory, or the flaw's fault at the key
 abbrev pub IsFaultAt : Place → List ℕ → Flaw → FileFault → Type 0
 IsFaultAt place key flaw e = IsMemory e ⊎ (e ≡ fault_at (path_of place key) flaw)

@@ -24,7 +24,7 @@ pub record Pass (cs : List Check) : Type 0 where
 abbrev pub IsMemory : FileFault → Type 0
 IsMemory e = e ≡ Memory alloc_error
 
--- want of memory, which may come at any time, or the first fault of the checks
+-- out of memory, which may come at any time, or the first fault of the checks
 pub record IsRefusal (cs : List Check) (e : FileFault) : Type 0 where
   pub cause : IsMemory e ⊎ (first_fault cs ≡ Some e)
 

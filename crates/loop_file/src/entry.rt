@@ -42,7 +42,7 @@ impl<'a> Entry<'a> {
         key_path(self.alloc, self.place, key).map_err(FileFault::Memory)
     }
 
-    /// The fault of a flaw at a key, or want of memory for its path.
+    /// The fault of a flaw at a key, or out of memory for its path.
     pub fn fault(&self, key: &str, flaw: Flaw) -> FileFault
         ensures { IsFaultAt self.now.place key.now flaw result }
     {

@@ -53,10 +53,13 @@ fn over<T: Copy>(
 ) -> Result<Option<T>, Flaw>
     ensures { result ≡ over needed given reading }
 {
-    match (reading?, given) {
-        (Some(own), _) => Ok(Some(own)),
-        (None, Some(value)) => Ok(Some(value)),
-        (None, None) if needed => Err(Flaw::Missing),
-        (None, None) => Ok(None),
+    match reading {
+        Err(flaw) => Err(flaw),
+        Ok(Some(own)) => Ok(Some(own)),
+        Ok(None) => match given {
+            Some(value) => Ok(Some(value)),
+            None if needed => Err(Flaw::Missing),
+            None => Ok(None),
+        },
     }
 }

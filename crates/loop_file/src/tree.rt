@@ -2,9 +2,10 @@
 
 ghost use Rattle.std.specs.Prelude.{◌≡◌, ◌⊎◌, true, map, OnOk, IfOk, IfErr, Some, None};
 ghost use Rattle.toml.specs.Data.{as_array};
-ghost use Rattle.toml.specs.View.{view, table_view};
+ghost use Rattle.toml.specs.View.{view, table_view, items_view};
 ghost use Rattle.loop_file.specs.Walk.{Pass, IsMemory, IsRefusal};
-ghost use Rattle.loop_file.specs.LoopFile.{array_checks, items_or_none};
+ghost use Rattle.loop_file.specs.LoopFile.{array_checks, entry_checks, tables_of, items_or_none};
+ghost use Rattle.loop_file.specs.Paths.{entry_path};
 ghost use Rattle.loop_file.specs.declared.place.Place.TheVariants.{Top};
 ghost use Rattle.loop_file.specs.Order.{keys_ascend};
 ghost use Rattle.loop_file.specs.Tree.{tree_of};
@@ -60,18 +61,38 @@ pub fn read_tables<'a>(
     if entries.len() < least || entries.len() > greatest {
         return Err(top.fault(key, Flaw::OutOfRange));
     }
-    let mut tables = Vec::new(top.alloc);
+    tables_of(top.alloc, key, entries)
+}
+
+/// The entries as tables, up to the first that is none.
+fn tables_of<'a>(
+    alloc: Global,
+    key: &str,
+    entries: &'a [Value],
+) -> Result<Vec<&'a Table>, FileFault>
+    ensures pass { OnOk result (Pass (entry_checks key.now 0 (items_view entries.now))) }
+    ensures tables { IfOk result (λ tables. map (λ t. table_view t.now) tables.items ≡ tables_of (items_view entries.now)) }
+    ensures fault { IfErr result (IsRefusal (entry_checks key.now 0 (items_view entries.now))) }
+{
+    let mut tables = Vec::new(alloc);
     for (i, entry) in entries.iter().enumerate() {
-        match entry.as_table() {
-            Some(table) => match tables.push(table) {
-                Ok(()) => {}
-                Err(_) => return Err(FileFault::Memory(AllocError)),
-            },
-            None => {
-                let path = array_path(top.alloc, key, i).map_err(FileFault::Memory)?;
-                return Err(FileFault::WrongKind(path));
-            }
+        let Some(table) = entry.as_table() else {
+            return Err(no_table(alloc, key, i));
+        };
+        match tables.push(table) {
+            Ok(()) => {}
+            Err(_) => return Err(FileFault::Memory(AllocError)),
         }
     }
     Ok(tables)
+}
+
+/// The fault of an entry that is no table.
+fn no_table(alloc: Global, key: &str, i: usize) -> FileFault
+    ensures { IsMemory result ⊎ (result ≡ FileFault.WrongKind (entry_path key.now i)) }
+{
+    match array_path(alloc, key, i) {
+        Ok(path) => FileFault::WrongKind(path),
+        Err(error) => FileFault::Memory(error),
+    }
 }

@@ -12,7 +12,7 @@ const ORDER: u8 = 28;
 
 /// The loop of a number: sensors, a logic solver and valves, with yearly proof tests, and figures drawn from the number.
 ///
-/// The only refusal is want of memory. Whatever the number, the loop is valid and small, and exceeds no limit.
+/// The only refusal is `out of memory`. Whatever the number, the loop is valid and small, and exceeds no limit.
 #[tactic(auto, using(crate::proofs::Limits::drawn_suitable))]
 pub fn make_loop(alloc: Global, number: u64) -> Result<Loop, AllocError>
     ensures drawn { IfOk result (λ l. l ≡ drawn_of number) }

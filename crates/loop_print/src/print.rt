@@ -17,7 +17,7 @@ use toml::ser::Error;
 use toml::{Table, Value};
 
 /// Prints the canonical loop file of a loop, which has every key and no types, and no more bytes than a loop file may have.
-/// Reading it gives the loop back. The only refusal is want of memory.
+/// Reading it gives the loop back. The only refusal is `out of memory`.
 pub fn print_loop(alloc: Global, l: &Loop) -> Result<Vec<u8>, AllocError>
     ensures bytes { IfOk result (λ text. text.items ≡ canonical_text l.now) }
     ensures short { IfOk result (λ text. length text.items ≤ most_file_bytes) }

@@ -102,7 +102,7 @@ impl MemShelf {
         }
     }
 
-    /// Puts the bytes under the name, in place of those that are there. Afterwards no file is picked. Without memory
+    /// Puts the bytes under the name, in place of those that are there. Afterwards no file is picked. Out of memory,
     /// the shelf is as before.
     pub fn put(&mut self, name: &str, bytes: &[u8]) -> Result<(), AllocError>
         ensures put { OnOk result (bytes_under self.new.files name.now ≡ Some bytes.now) }

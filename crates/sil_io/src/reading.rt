@@ -78,7 +78,7 @@ pub trait Shelf {
 /// Why a file was not read whole.
 #[derive(Debug, Drop, Error)]
 pub enum ReadFault {
-    /// No memory for the bytes.
+    /// Out of memory for the bytes.
     #[error(transparent)]
     Memory(AllocError),
     /// A read failed.

@@ -1,6 +1,6 @@
 //! Real files, the standard output, and writers in its place.
-use super::TEXT;
-use sil_io::{FileShelf, OutSink, ReadFault, Shelf, Sink, read_to_limit, write_whole};
+use super::{TEXT, is_written, picks, read, written};
+use sil_io::{FileShelf, OutSink, ReadFault};
 use std::alloc::Global;
 use std::io::{Error, ErrorKind, Write};
 use std::test::Fail;
@@ -50,31 +50,25 @@ impl Write for Planned {
     }
 }
 
-/// Whether the text is written whole.
-fn is_written(writer: &mut Planned) -> bool {
-    let mut sink = OutSink::new(writer);
-    write_whole(&mut sink, TEXT).is_ok()
-}
-
 #[test]
 fn each_write_is_flushed_and_each_failure_is_told(rt: HostRuntime) -> Result<(), Fail> {
     // how many bytes a write takes, which write and which flush fails; then whether all is written, the bytes that the
     // writer holds, and how often it was asked to write and to flush
     for (most, failing_write, failing_flush, want, held, writes, flushes) in [
-        (100, 0, 0, true, 13, 1, 1),
-        (1, 0, 0, true, 13, 13, 13),
-        (5, 0, 0, true, 13, 3, 3),
-        (100, 1, 0, false, 0, 1, 0),
-        (5, 2, 0, false, 5, 2, 1),
-        (100, 0, 1, false, 13, 1, 1),
-        (1, 0, 1, false, 1, 1, 1),
-        (5, 0, 3, false, 13, 3, 3),
-        (0, 0, 0, false, 0, 1, 1),
+        (100, 0, 0, true, TEXT, 1, 1),
+        (1, 0, 0, true, TEXT, 13, 13),
+        (5, 0, 0, true, TEXT, 3, 3),
+        (100, 1, 0, false, b"", 1, 0),
+        (5, 2, 0, false, b"missi", 2, 1),
+        (100, 0, 1, false, TEXT, 1, 1),
+        (1, 0, 1, false, b"m", 1, 1),
+        (5, 0, 3, false, TEXT, 3, 3),
+        (0, 0, 0, false, b"", 1, 1),
     ] {
         let mut writer = Planned::new(rt.alloc(), most, failing_write, failing_flush);
         let row = format!(in rt.alloc(); "{most} a write, {failing_write}, {failing_flush}")?;
-        assert_eq!(rt; is_written(&mut writer), want, "{row}");
-        assert_eq!(rt; writer.bytes.as_slice(), &TEXT[..held], "{row}");
+        assert_eq!(rt; is_written(&mut OutSink::new(&mut writer)), want, "{row}");
+        assert_eq!(rt; writer.bytes.as_slice(), held, "{row}");
         assert_eq!(rt; (writer.writes, writer.flushes), (writes, flushes), "{row}");
     }
     Ok(())
@@ -85,14 +79,13 @@ fn a_sink_goes_on_after_a_failure(rt: HostRuntime) {
     let mut sink = OutSink::new(Planned::new(rt.alloc(), 5, 2, 2));
     // the second write fails, and then the flush of the third one
     for want in [Some(5), None, None, Some(5)] {
-        assert_eq!(rt; sink.write(TEXT).ok(), want);
+        assert_eq!(rt; written(&mut sink, TEXT), want);
     }
 }
 
 #[test]
 fn writes_to_the_standard_output(rt: HostRuntime) {
-    let mut sink = OutSink::new(io::writer(&rt));
-    assert!(rt; write_whole(&mut sink, TEXT).is_ok());
+    assert!(rt; is_written(&mut OutSink::new(io::writer(&rt))));
 }
 
 #[test]
@@ -100,25 +93,17 @@ fn reads_a_real_file_and_refuses_a_missing_one(rt: HostRuntime) -> Result<(), Fa
     let path = "sil-io-test.toml";
     fs::write(&rt, path, TEXT)?;
     let mut shelf = FileShelf::new(&rt);
-    let picked = shelf.pick(path);
-    let read = read_to_limit(rt.alloc(), &mut shelf, 13);
+    let picked = picks(&mut shelf, path);
+    let bytes = read(rt.alloc(), &mut shelf, 13);
     fs::remove_file(&rt, path)?;
-    assert!(rt; picked.is_ok());
-    assert_eq!(rt; read?.as_slice(), TEXT);
-    assert!(rt; shelf.pick(path).is_err());
-    assert_eq!(rt; read_to_limit(rt.alloc(), &mut shelf, 9)?.len(), 0);
-    Ok(())
-}
-
-#[test]
-fn a_folder_has_no_bytes_to_read(rt: HostRuntime) {
-    let mut shelf = FileShelf::new(&rt);
-    if shelf.pick(".").is_ok() {
-        assert!(rt;
-            matches!(
-                read_to_limit(rt.alloc(), &mut shelf, 13),
-                Err(ReadFault::Failed)
-            )
-        );
+    assert!(rt; picked);
+    assert_eq!(rt; bytes?.as_slice(), TEXT);
+    assert!(rt; !picks(&mut shelf, path));
+    assert_eq!(rt; read(rt.alloc(), &mut shelf, 9)?.len(), 0);
+    // a folder has no bytes to read
+    if picks(&mut shelf, ".") {
+        let nothing = read(rt.alloc(), &mut shelf, 13);
+        assert!(rt; matches!(nothing, Err(ReadFault::Failed)));
     }
+    Ok(())
 }

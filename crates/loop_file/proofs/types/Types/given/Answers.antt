@@ -1,9 +1,12 @@
-use Rattle.std.proofs.Common.{◌≡◌, ◌∙◌, ◌<◌, sym, false, rules, is_some, ap, length, arith, Ok}
+use Rattle.std.proofs.Common.{◌≡◌, ◌∙◌, ◌<◌, sym, false, rules, is_some, ap, arith, Ok, ℕ}
 use Rattle.std.specs.List.{list_any}
 use Rattle.std.specs.Str.{bytes_eq}
 use Rattle.std.proofs.lemmas.List.Quantifiers.{position-Some}
 use Rattle.loop_file.proofs.ShownNames.{given_found, given_missing}
 use Rattle.loop_file.proofs.types.Types.given.Goals as goal
+
+within_both : (i keys items len : ℕ) → i < keys → keys ≡ items → len ≡ items → i < len
+within_both i keys items len h e f = omega arith
 
 pub returns-in-Some : goal.returns-in-Some
 returns-in-Some c =
@@ -18,5 +21,4 @@ returns-in-None c =
 pub index-requires : goal.index-requires
 index-requires c =
     let at = position-Some (λ k. bytes_eq c.args.name.now k.now) c.args.self.now.names.keys c.in-Some.i c.args.name (sym c.get_index_of.ensures.index ∙ c.in-Some.is) in
-    let within : c.in-Some.i < length c.args.self.now.names.keys = at.0 in
-    omega (arith, c.args.self.now.as_many, c.args.self.now.given.ok.0)
+    within_both c.in-Some.i _ _ _ at.0 c.args.self.now.as_many c.args.self.now.given.ok.0
