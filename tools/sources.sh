@@ -8,7 +8,7 @@
 # Processor minutes of ./prove from nothing, and the minutes of its longest chain of crates, which more processors do not
 # shorten.
 PROCESSOR_MINUTES=60
-CHAIN_MINUTES=12
+CHAIN_MINUTES=24
 
 program_of() {
     printf '%s\n' "$1/crates/sil/out/sil"
