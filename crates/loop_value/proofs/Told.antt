@@ -14,9 +14,9 @@ use Rattle.sil_model.specs.declared.answers.Decimal18.{Decimal18}
 use Rattle.lumped_laws.specs.StateOfCounts.{state_numbered}
 use Rattle.vector_laws.proofs.Masses.{sum_of}
 use Rattle.mission_laws.specs.Missions.{pfd_lower, pfd_upper}
-use Rattle.phase_laws.specs.Laws.{HasPassed, HasSides, PassesBeats}
-use Rattle.phase_laws.proofs.Arrived.{arrival_laws}
-use Rattle.phase_laws.proofs.PhaseFigures.{phase_figure_laws}
+use Rattle.mission_laws.specs.PhaseLaws.{HasPassed, HasSides, PassesBeats}
+use Rattle.mission_laws.proofs.Arrived.{arrival_laws}
+use Rattle.mission_laws.proofs.PhaseFigures.{phase_figure_laws}
 use Rattle.sil_watch.specs.Watching.{WatcherValue, fed_of}
 use Rattle.sil_watch.specs.declared.kind.WatchSet.{WatchSet}
 use Rattle.sil_watch.specs.declared.record.PhaseRecord.{PhaseRecord}

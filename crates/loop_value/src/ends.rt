@@ -1,6 +1,7 @@
 //! The ends of PFDavg and of PFH, by the dwell of the mission.
 
 ghost use Rattle.std.specs.Prelude.{◌≡◌, ℕ, ◌+◌, ◌-◌, ◌*◌, ◌/◌, ◌^◌, ◌<◌, ◌≤◌, Bool, length, sum, slice_index, if◌then◌else◌};
+ghost use Rattle.sil_model.specs.Sizes.{most_states};
 ghost use Rattle.mission_laws.specs.Missions.{AreMeans, pfh_lower, pfh_upper};
 ghost use Rattle.loop_value.specs.Ends.{sum_down, sum_up, entries_of};
 
@@ -50,7 +51,7 @@ fn counted(counts: bool, x: u128) -> u128
 /// The entries over the mission: each mean times the rate at which the loop goes down there, and `more` besides.
 fn entries<L: Ledger>(means: &[u128], rates: &[u64], more: u128, steps: &mut Steps<L>) -> Dot
     requires length { length rates.now ≡ length means.now }
-    requires few { length means.now ≤ 4096 }
+    requires few { length means.now ≤ most_states }
     requires mass { sum means.now ≤ 2 ^ 48 }
     requires small { (i : ℕ) → slice_index rates.now i ≤ 2 ^ 60 }
     requires more { more < 2 ^ 108 }
@@ -79,7 +80,7 @@ pub fn pfh_interval<L: Ledger>(
     steps: &mut Steps<L>,
 ) -> Decimal18
     requires length { length rates.now ≡ length means.now }
-    requires few { length means.now ≤ 4096 }
+    requires few { length means.now ≤ most_states }
     requires lack { sum means.now + lack ≡ 2 ^ 48 }
     requires small { (i : ℕ) → slice_index rates.now i ≤ greatest }
     requires greatest { greatest ≤ 2 ^ 60 }

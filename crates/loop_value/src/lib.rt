@@ -6,7 +6,6 @@ mod evaluating;
 mod measuring;
 mod mission;
 mod preparing;
-mod separate;
 mod telling;
 
 pub use evaluating::value;

@@ -14,8 +14,8 @@ use Rattle.product_chain.specs.Kept.{ChainValue}
 use Rattle.phase_run.specs.Passes.{Passes}
 use Rattle.uniformise.specs.Beat.{hours_of_beat, vector_loss, dwell_loss}
 use Rattle.dense_power.specs.Powers.{end_lack_of, dwell_lack_of}
-use Rattle.dense_power.specs.Matrix.{Matrix, IsRowProductDown, EachEntryAtMost}
-use Rattle.dense_power.specs.Rows.{row_of, IsBelowOperator, EachRowAtMost, EachRowNear}
+use Rattle.vector_laws.specs.Matrix.{Matrix, IsRowProductDown, EachEntryAtMost}
+use Rattle.vector_laws.specs.Rows.{row_of, IsBelowOperator, EachRowAtMost, EachRowNear}
 use Rattle.dense_power.proofs.Pairs.{dwell_entries}
 use Rattle.dense_power.proofs.RowProducts.{product_weighs, product_most, product_least}
 use Rattle.phase_powers.specs.Pairs.{beat_at, mean_at, IsRowPair, IsBeatPair, IsPhasePair}

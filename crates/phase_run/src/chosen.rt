@@ -6,9 +6,12 @@ ghost use Rattle.sil_model.specs.Sizes.{states_of};
 ghost use Rattle.vector_laws.specs.Vectors.{IsMass};
 ghost use Rattle.uniformise.specs.Beat.{beat_products};
 ghost use Rattle.place_chain.specs.Sweeps.{choice_products};
+ghost use Rattle.phase_run.specs.Rooms.{HasPartRoom};
 ghost use Rattle.phase_run.specs.Passes.{Passes, LosesLittle, block_beat_loss, beat_products_in_blocks};
 
 use crate::blocks::pass_blocks;
+use crate::over::Stretch;
+use crate::room::PartRoom;
 use beat_ladder::{BlockRoom, Ladder};
 use place_chain::PlaceChain;
 use product_chain::Chain;
@@ -118,43 +121,48 @@ fn loses_little(before: &[u128], after: &[u64], dwelt: &[u128], beats: u64, loss
 }
 
 /// Passes beats over chosen places, and answers whether little was lost; if not, vector and dwell stay as they were.
-#[allow(clippy::too_many_arguments)]
 fn pass_over_chosen<L: Ledger>(
-    chosen: &PlaceChain,
-    ladder: &Ladder,
+    stretch: &Stretch<'_>,
     blocks: &mut BlockRoom,
-    beats: u64,
-    events: u64,
     small: &mut [u64],
     small_dwell: &mut [u128],
     v: &mut [u128],
     dwell: &mut [u128],
     steps: &mut Steps<L>,
 ) -> bool
-    requires rungs { 0 < ladder.now }
-    requires blocks { states_of chosen.now.chain.of.subsystems ≤ blocks.old }
-    requires events { events ≡ lumped_events_of chosen.now.chain.of.subsystems }
-    requires small { length small.old ≡ states_of chosen.now.chain.of.subsystems }
-    requires small_dwell { length small_dwell.old ≡ states_of chosen.now.chain.of.subsystems }
-    requires v { length v.old ≡ states_of chosen.now.chain.of.subsystems }
-    requires dwell { length dwell.old ≡ states_of chosen.now.chain.of.subsystems }
+    requires rungs { 0 < stretch.now.ladder.now }
+    requires blocks { states_of stretch.now.places.now.chain.of.subsystems ≤ blocks.old }
+    requires events { stretch.now.events ≡ lumped_events_of stretch.now.places.now.chain.of.subsystems }
+    requires small { length small.old ≡ states_of stretch.now.places.now.chain.of.subsystems }
+    requires small_dwell { length small_dwell.old ≡ states_of stretch.now.places.now.chain.of.subsystems }
+    requires v { length v.old ≡ states_of stretch.now.places.now.chain.of.subsystems }
+    requires dwell { length dwell.old ≡ states_of stretch.now.places.now.chain.of.subsystems }
     requires mass { IsMass v.old }
     requires none { (k : ℕ) → k < length dwell.old → slice_index dwell.old k ≡ 0 }
-    requires few { beats ≤ 1_000_000 }
+    requires few { stretch.now.beats ≤ 1_000_000 }
     ensures blocks { blocks.new ≡ blocks.old }
-    ensures passes { IsTrue result → Passes chosen.now.chain 16 (block_beat_loss chosen.now.chain.of.subsystems) beats v.old v.new dwell.old dwell.new }
+    ensures passes { IsTrue result → Passes stretch.now.places.now.chain 16 (block_beat_loss stretch.now.places.now.chain.of.subsystems) stretch.now.beats v.old v.new dwell.old dwell.new }
     ensures kept { IsFalse result → v.new ≡ v.old }
     ensures dwell_kept { IsFalse result → dwell.new ≡ dwell.old }
-    ensures steps { steps.new ≤ steps.old + beats * beat_products_in_blocks chosen.now.entries (length chosen.now.places) }
+    ensures steps { steps.new ≤ steps.old + stretch.now.beats * beat_products_in_blocks stretch.now.places.now.entries (length stretch.now.places.now.places) }
 {
-    let loss = loss_of_beat(v.len(), events);
+    let chosen = stretch.places;
+    let loss = loss_of_beat(v.len(), stretch.events);
     let size = chosen.size();
     let small = &mut small[..size];
     let small_dwell = &mut small_dwell[..size];
     chosen.gather(v, small);
     small_dwell.fill(0);
-    pass_blocks(ladder, blocks, chosen, beats, small, small_dwell, steps);
-    if !loses_little(v, small, small_dwell, beats, loss) {
+    pass_blocks(
+        stretch.ladder,
+        blocks,
+        chosen,
+        stretch.beats,
+        small,
+        small_dwell,
+        steps,
+    );
+    if !loses_little(v, small, small_dwell, stretch.beats, loss) {
         return false;
     }
     chosen.scatter(small, v);
@@ -164,43 +172,33 @@ fn pass_over_chosen<L: Ledger>(
 
 /// Chooses the places that come to hold enough, where they are clearly fewer than those that are reached, and passes beats over
 /// them. It answers whether it has done so and little was lost; if not, vector and dwell stay as they were.
-#[allow(clippy::too_many_arguments)]
 pub fn pass_over_few<L: Ledger>(
-    chosen: &mut PlaceChain,
-    reached: &PlaceChain,
-    chain: &Chain,
+    room: &mut PartRoom,
     ladder: &Ladder,
-    blocks: &mut BlockRoom,
+    chain: &Chain,
     beats: u64,
-    events: u64,
-    small: &mut [u64],
-    small_dwell: &mut [u128],
     v: &mut [u128],
     dwell: &mut [u128],
     steps: &mut Steps<L>,
 ) -> bool
-    requires same { chosen.old.chain.of ≡ chain.now.of }
-    requires reached { reached.now.chain ≡ chain.now }
-    requires blocks { states_of chain.now.of.subsystems ≤ blocks.old }
-    requires events { events ≡ lumped_events_of chain.now.of.subsystems }
-    requires few_events { events ≤ 1_000 }
-    requires small { length small.old ≡ states_of chain.now.of.subsystems }
-    requires small_dwell { length small_dwell.old ≡ states_of chain.now.of.subsystems }
+    requires room { HasPartRoom chain.now.of room.old }
+    requires reached { room.old.reached.chain ≡ chain.now }
     requires v { length v.old ≡ states_of chain.now.of.subsystems }
     requires dwell { length dwell.old ≡ states_of chain.now.of.subsystems }
     requires mass { IsMass v.old }
     requires none { (k : ℕ) → k < length dwell.old → slice_index dwell.old k ≡ 0 }
     requires few { beats ≤ 1_000_000 }
-    ensures same { chosen.new.chain.of ≡ chain.now.of }
-    ensures blocks { blocks.new ≡ blocks.old }
+    ensures room { HasPartRoom chain.now.of room.new }
+    ensures reached { room.new.reached ≡ room.old.reached }
     ensures passes { IsTrue result → Passes chain.now 16 (block_beat_loss chain.now.of.subsystems) beats v.old v.new dwell.old dwell.new }
     ensures kept { IsFalse result → v.new ≡ v.old }
     ensures dwell_kept { IsFalse result → dwell.new ≡ dwell.old }
     ensures none { ladder.now ≡ 0 → steps.new ≡ steps.old }
     // beats over all places that are reached may follow
-    ensures steps { steps.new + beats * beat_products_in_blocks reached.now.entries (length reached.now.places) ≤ steps.old + beats * beat_products chain.now.of.subsystems 16 }
+    ensures steps { steps.new + beats * beat_products_in_blocks room.old.reached.entries (length room.old.reached.places) ≤ steps.old + beats * beat_products chain.now.of.subsystems 16 }
 {
-    let of_reached = products_of_beat(reached);
+    let events = room.events;
+    let of_reached = products_of_beat(&room.reached);
     if beats < LEAST_BEATS || ladder.rungs() == 0 {
         return false;
     }
@@ -208,18 +206,22 @@ pub fn pass_over_few<L: Ledger>(
         return false;
     }
     // What flows in goes by a tick for each beat in the mean; a quarter more is a margin.
-    chosen.choose(chain, v, beats + beats / 4, LEAST_MASS * beats, steps);
-    if !may_be_tried(chosen, reached, chain, beats, events) {
+    room.chosen
+        .choose(chain, v, beats + beats / 4, LEAST_MASS * beats, steps);
+    if !may_be_tried(&room.chosen, &room.reached, chain, beats, events) {
         return false;
     }
-    pass_over_chosen(
-        chosen,
+    let stretch = Stretch {
+        places: &room.chosen,
         ladder,
-        blocks,
         beats,
         events,
-        small,
-        small_dwell,
+    };
+    pass_over_chosen(
+        &stretch,
+        &mut room.blocks,
+        room.v.as_mut_slice(),
+        room.dwell.as_mut_slice(),
         v,
         dwell,
         steps,

@@ -9,8 +9,8 @@ use Rattle.sil_model.specs.Sizes.{shares_of, states_over, states_of}
 use Rattle.sil_model.specs.declared.parts.Subsystem.{Subsystem}
 use Rattle.sil_model.specs.declared.parts.TestPlan.{TestPlan}
 use Rattle.sil_model.proofs.Groups.{length-staggered}
-use Rattle.lumping.proofs.Numbering.{shares-positive}
-use Rattle.independence_laws.specs.Subsystems.{states_in}
+use Rattle.count_laws.proofs.Numbering.{shares-positive}
+use Rattle.separate_laws.specs.Subsystems.{states_in}
 use Rattle.phase_separate.specs.Extents.{IsSizeOf}
 
 -- each group of one channel has four count vectors

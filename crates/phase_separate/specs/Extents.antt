@@ -3,7 +3,7 @@ use Rattle.std.specs.Prelude.{◌≡◌, ◌+◌, ◌*◌, ◌^◌, ◌≤◌, L
 use Rattle.sil_model.specs.Budget.{lumped_events_of}
 use Rattle.sil_model.specs.Sizes.{states_of, most_states}
 use Rattle.sil_model.specs.declared.parts.Subsystem.{Subsystem}
-use Rattle.independence_laws.specs.Subsystems.{states_in}
+use Rattle.separate_laws.specs.Subsystems.{states_in}
 use Rattle.subsystem_power.specs.Powers.{begin_products}
 use Rattle.phase_separate.specs.Subsystems.{matrix_loss}
 use Rattle.phase_separate.specs.declared.extent.Size.{Size}

@@ -5,7 +5,7 @@ use Rattle.sil_model.specs.LoopValue.{LoopValue}
 use Rattle.sil_model.specs.declared.parts.Subsystem.{Subsystem}
 use Rattle.product_chain.specs.Kept.{ChainValue}
 use Rattle.uniformise.specs.Beat.{hours_of_beat, vector_loss}
-use Rattle.independence_laws.specs.Subsystems.{states_in, steps_of_subsystems}
+use Rattle.separate_laws.specs.Subsystems.{states_in, steps_of_subsystems}
 use Rattle.subsystem_power.specs.Powers.{PowerValue, alone_of}
 use Rattle.phase_separate.specs.declared.along.Span.{Span}
 use Rattle.phase_separate.specs.declared.along.Span.TheVariants.{Power, Sixteen}

@@ -2,8 +2,8 @@
 
 ghost use Rattle.std.specs.Prelude.{◌≡◌, ℕ, ◌+◌, ◌*◌, ◌^◌, ◌<◌, ◌≤◌, sum, vec_len};
 ghost use Rattle.sil_model.specs.Sizes.{states_of};
-ghost use Rattle.dense_power.specs.Matrix.{EachEntryAtMost};
-ghost use Rattle.digit_laws.specs.Digits.{IsAlongDown};
+ghost use Rattle.vector_laws.specs.Matrix.{EachEntryAtMost};
+ghost use Rattle.separate_laws.specs.Digits.{IsAlongDown};
 ghost use Rattle.subsystem_power.specs.Powers.{IsPowerOf};
 ghost use Rattle.phase_separate.specs.Passes.{PassesAlong};
 ghost use Rattle.phase_separate.specs.Products.{along_products};
@@ -24,6 +24,15 @@ pub enum Span {
     Power,
     /// Sixteen.
     Sixteen,
+}
+
+/// A vector that is passed along the subsystems, and room for the next.
+#[derive(Drop)]
+pub struct Buffers {
+    /// The vector.
+    pub now: Vec<u64>,
+    /// What it becomes.
+    pub next: Vec<u64>,
 }
 
 /// The matrix of a subsystem over so many beats.

@@ -4,7 +4,7 @@ ghost use Rattle.std.specs.Prelude.{◌≡◌, ℕ, ◌+◌, ◌*◌, ◌^◌, �
 ghost use Rattle.sil_model.specs.Budget.{lumped_events_of};
 ghost use Rattle.sil_model.specs.LoopValue.{IsSubsystemInRange};
 ghost use Rattle.sil_model.specs.Sizes.{states_of, most_states};
-ghost use Rattle.independence_laws.specs.Subsystems.{states_in};
+ghost use Rattle.separate_laws.specs.Subsystems.{states_in};
 ghost use Rattle.phase_separate.specs.Extents.{IsSizeOf, AreSumsOf, AreSmall, IsAdded};
 ghost use Rattle.phase_separate.specs.Losses.{LoseLittle};
 ghost use Rattle.phase_separate.specs.Products.{separate_products};

@@ -5,7 +5,7 @@ ghost use Rattle.std.specs.Prelude.{◌≤◌};
 ghost use Rattle.sil_model.specs.Sizes.{states_of};
 ghost use Rattle.product_chain.specs.Kept.{ChainValue};
 ghost use Rattle.uniformise.specs.Beat.{beat_products};
-ghost use Rattle.dense_power.specs.Rows.{EachRowAtMost};
+ghost use Rattle.vector_laws.specs.Rows.{EachRowAtMost};
 ghost use Rattle.subsystem_power.specs.Rooms.{IsRow, IsSparePower};
 
 use dense_power::Dense;

@@ -15,10 +15,10 @@ use Rattle.product_chain.specs.Kept.{ChainValue}
 use Rattle.vector_laws.specs.Laws.{AreFloors, IsSumWith}
 use Rattle.vector_laws.specs.Vectors.{weigh}
 use Rattle.vector_laws.proofs.Masses.{place-le}
-use Rattle.block_laws.specs.Block.{IsGathered, tail_at}
-use Rattle.block_laws.specs.BlockLaws.{EndsLaw, DwellLaw}
-use Rattle.block_laws.proofs.Blocks.{ends_law, dwell_law}
-use Rattle.block_laws.proofs.Ticks.{gathered_same}
+use Rattle.vector_laws.specs.Block.{IsGathered, tail_at}
+use Rattle.vector_laws.specs.BlockLaws.{EndsLaw, DwellLaw}
+use Rattle.vector_laws.proofs.Blocks.{ends_law, dwell_law}
+use Rattle.vector_laws.proofs.Ticks.{gathered_same}
 use Rattle.sil_model.specs.WeightTable.{weight_of, mean_weight_of}
 use Rattle.series_weights.proofs.Sums.{means_within, mean_last}
 use Rattle.sil_fraction.proofs.Sums.{sum-next}

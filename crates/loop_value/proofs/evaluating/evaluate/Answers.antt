@@ -2,7 +2,7 @@ use Rattle.std.proofs.Common.{◌≡◌, ◌+◌, ◌-◌, ◌*◌, ◌/◌, ◌
 use Rattle.sil_model.specs.Budget.{failure_rate_of}
 use Rattle.sil_model.specs.Sizes.{states_of}
 use Rattle.sil_model.specs.Calendar.{ceiling}
-use Rattle.test_calendar.proofs.PhasesOfLoop.{length-phases_of, phases_of_few}
+use Rattle.schedule_laws.proofs.PhasesOfLoop.{length-phases_of, phases_of_few}
 use Rattle.mission_laws.specs.Missions.{AreMeans, pfd_lower, pfd_upper, pfh_lower, pfh_upper}
 use Rattle.loop_value.specs.Ends.{sum_down, sum_up, entries_of}
 use Rattle.loop_value.specs.Sizes.{value_products, value_products_by_powers}
@@ -12,7 +12,7 @@ use Rattle.loop_value.proofs.evaluating.evaluate.Goals as goal
 
 pub sides-down-requires-clause-mass : goal.sides-down-requires-clause-mass
 sides-down-requires-clause-mass g c =
-    mass c.args.l.now c.mission.ensures.valid c.args.machine.now.weights c.requires.order c.args.up.now c.args.rates.now c.pass_mission.new.dwell c.divide.new.dwell
+    mass c.args.l.now c.mission.ensures.valid c.args.machine.now.rooms.order c.requires.order c.args.up.now c.args.rates.now c.pass_mission.new.dwell c.divide.new.dwell
     c.in_ok-passages.passages.least c.in_ok-passages.passages.most c.in_ok-passages.ensures.counted c.in_ok-passages.ensures.lost
     c.in_ok-passages.ensures.few (rw c.mission.ensures.mission at c.divide.ensures) (c.pass_mission.auto.dwell ∙ c.requires.dwell) c.requires.up c.requires.rates
 
@@ -28,7 +28,7 @@ module _ (g : Over) (c : goal.After-pfh_interval g) where
   all = omega (arith, c.sides-down.ensures.all, c.sides-down.ensures.down, c.sides-down.ensures.up)
 
   small : sum c.divide.new.dwell ≤ 2 ^ 48
-  small = mass c.args.l.now c.mission.ensures.valid c.args.machine.now.weights c.requires.order c.args.up.now c.args.rates.now c.pass_mission.new.dwell c.divide.new.dwell
+  small = mass c.args.l.now c.mission.ensures.valid c.args.machine.now.rooms.order c.requires.order c.args.up.now c.args.rates.now c.pass_mission.new.dwell c.divide.new.dwell
       c.in_ok-passages.passages.least c.in_ok-passages.passages.most c.in_ok-passages.ensures.counted c.in_ok-passages.ensures.lost
       c.in_ok-passages.ensures.few shared size c.requires.up c.requires.rates
 
@@ -70,28 +70,28 @@ pfh_interval-requires-clause-one_an_hour g c =
 pub returns-clause-pfd : goal.returns-clause-pfd
 returns-clause-pfd g c N o =
     rw (pfd_lo g c, pfd_hi g c)
-    (pfd_inside c.args.l.now c.mission.ensures.valid c.args.machine.now.weights c.requires.order c.args.up.now c.args.rates.now c.pass_mission.new.dwell c.divide.new.dwell
+    (pfd_inside c.args.l.now c.mission.ensures.valid c.args.machine.now.rooms.order c.requires.order c.args.up.now c.args.rates.now c.pass_mission.new.dwell c.divide.new.dwell
     c.in_ok-passages.passages.least c.in_ok-passages.passages.most c.in_ok-passages.ensures.counted c.in_ok-passages.ensures.lost
     c.in_ok-passages.ensures.few (shared g c) (size g c) c.requires.up c.requires.rates (all g c) N o)
 
 pub returns-clause-pfh : goal.returns-clause-pfh
 returns-clause-pfh g c N o =
     rw (pfh_lo g c, pfh_hi g c)
-    (pfh_inside c.args.l.now c.mission.ensures.valid c.args.machine.now.weights c.requires.order c.args.up.now c.args.rates.now c.pass_mission.new.dwell c.divide.new.dwell
+    (pfh_inside c.args.l.now c.mission.ensures.valid c.args.machine.now.rooms.order c.requires.order c.args.up.now c.args.rates.now c.pass_mission.new.dwell c.divide.new.dwell
     c.in_ok-passages.passages.least c.in_ok-passages.passages.most c.in_ok-passages.ensures.counted c.in_ok-passages.ensures.lost
     c.in_ok-passages.ensures.few (shared g c) (size g c) c.requires.up c.requires.rates (2 ^ 48 - c.sides-down.result.0 - c.sides-down.result.1) (is_lack g c) N o)
 
 pub returns-clause-pfd_width : goal.returns-clause-pfd_width
 returns-clause-pfd_width g c =
     rw (pfd_lo g c, pfd_hi g c)
-    (pfd_narrow c.args.l.now c.mission.ensures.valid c.args.machine.now.weights c.requires.order c.args.up.now c.args.rates.now c.pass_mission.new.dwell c.divide.new.dwell
+    (pfd_narrow c.args.l.now c.mission.ensures.valid c.args.machine.now.rooms.order c.requires.order c.args.up.now c.args.rates.now c.pass_mission.new.dwell c.divide.new.dwell
     c.in_ok-passages.passages.least c.in_ok-passages.passages.most c.in_ok-passages.ensures.counted c.in_ok-passages.ensures.lost
     c.in_ok-passages.ensures.few (shared g c) (size g c) c.requires.up c.requires.rates (all g c))
 
 pub returns-clause-pfh_width : goal.returns-clause-pfh_width
 returns-clause-pfh_width g c =
     rw (pfh_lo g c, pfh_hi g c)
-    (pfh_narrow c.args.l.now c.mission.ensures.valid c.args.machine.now.weights c.requires.order c.args.up.now c.args.rates.now c.pass_mission.new.dwell c.divide.new.dwell
+    (pfh_narrow c.args.l.now c.mission.ensures.valid c.args.machine.now.rooms.order c.requires.order c.args.up.now c.args.rates.now c.pass_mission.new.dwell c.divide.new.dwell
     c.in_ok-passages.passages.least c.in_ok-passages.passages.most c.in_ok-passages.ensures.counted c.in_ok-passages.ensures.lost
     c.in_ok-passages.ensures.few (shared g c) (size g c) c.requires.up c.requires.rates (2 ^ 48 - c.sides-down.result.0 - c.sides-down.result.1) (is_lack g c))
 

@@ -1,6 +1,6 @@
 use Rattle.std.proofs.Common.{◌≡◌, ◌≢◌, ◌∙◌, arith, inl, inr}
 use Rattle.std.proofs.lemmas.Bool.{cases_lt}
-use Rattle.dense_power.specs.Rows.{row_of}
+use Rattle.vector_laws.specs.Rows.{row_of}
 use Rattle.phase_powers.proofs.Phases.{beat_pair}
 use Rattle.phase_powers.proofs.rows.make_beat_pair.Goals as goal
 
@@ -26,5 +26,5 @@ loop-i-preserved g c =
 
 pub returns-clause-pair : goal.returns-clause-pair
 returns-clause-pair g c =
-    beat_pair c.args.chain.now c.args.weights.now c.loop-i.end c.loop-i.dwell c.loop-i.invariant.end_size c.loop-i.invariant.dwell_size
+    beat_pair c.args.phase.now.chain.now c.args.phase.now.weights.now c.loop-i.end c.loop-i.dwell c.loop-i.invariant.end_size c.loop-i.invariant.dwell_size
     (λ k h. c.loop-i.invariant.rows k (omega arith))

@@ -1,6 +1,6 @@
 use Rattle.std.proofs.Common.{◌≡◌, ℕ, ◌+◌, ◌*◌, ◌/◌, ◌^◌, ◌<◌, slice_index}
 use Rattle.sil_fraction.specs.Sum.{sum_below}
-use Rattle.dense_power.specs.Matrix.{entry_of}
+use Rattle.vector_laws.specs.Matrix.{entry_of}
 use Rattle.dense_power.proofs.dense.Dense.row_product_down.Given as goal
 
 abbrev pub invariant-loop-j : goal.invariant-loop-j

@@ -3,7 +3,7 @@ use Rattle.std.proofs.Math.Seq.{take-append_seam}
 use Rattle.sil_model.specs.Sizes.{states_of}
 use Rattle.sil_model.specs.WeightTable.{weight_of, mean_weight_of}
 use Rattle.vector_laws.specs.Laws.{AreFloors}
-use Rattle.block_laws.specs.Block.{IsGathered}
+use Rattle.vector_laws.specs.Block.{IsGathered}
 use Rattle.uniformise.specs.Beat.{IsStep, tick_loss}
 use Rattle.uniformise.proofs.OneBeat.{IsEnd, IsDwell, end_of_beat, dwell_of_beat}
 use Rattle.uniformise.proofs.workspace.Workspace.beat.Given.{Over}
