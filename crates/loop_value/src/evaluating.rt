@@ -30,7 +30,7 @@ use test_calendar::Plan;
 /// The limits are those of [`crate::measure`]. All memory but that of the watchers is taken before the first beat.
 ///
 /// The watchers whose kind is asked for are fed a record of every phase, in order of the phases, and each before
-/// the next is made. If memory is wanting to one of them, the computation ends. Where none is asked for, no record is made.
+/// the next is made. If one of them is out of memory, the computation ends. Where none is asked for, no record is made.
 pub fn value<L: Ledger>(
     alloc: Global,
     l: &Loop,
@@ -53,7 +53,7 @@ pub fn value<L: Ledger>(
 
     ensures within { OnOk result (first_limit_of l.now order ≡ None) }
     ensures first { (f : LimitFault) → result ≡ Err (ValueFault.Limit f) → first_limit_of l.now order ≡ Some f }
-    // no want of memory comes before these two
+    // out of memory comes after these two alone
     ensures too_many_tests { (n : ℕ) → (result ≡ Err (ValueFault.Limit (TooManyTests n))) ↔ (first_limit_of l.now order ≡ Some (TooManyTests n)) }
     ensures too_many_states { (n : ℕ) → (result ≡ Err (ValueFault.Limit (TooManyStates n))) ↔ (first_limit_of l.now order ≡ Some (TooManyStates n)) }
 

@@ -20,7 +20,7 @@ pub enum ValueFault {
     /// Its computation is too large.
     #[error("too large")]
     Limit(LimitFault),
-    /// Memory is wanting.
+    /// The program is out of memory.
     #[error(transparent)]
     Memory(AllocError),
 }
@@ -43,7 +43,7 @@ pub fn measure(alloc: Global, l: &Loop, order: u8) -> Result<Sizes, ValueFault>
     ensures within { OnOk result (first_limit_of l.now order ≡ None) }
 
     ensures first { (f : LimitFault) → result ≡ Err (ValueFault.Limit f) → first_limit_of l.now order ≡ Some f }
-    // no want of memory comes before these two
+    // out of memory comes after these two alone
     ensures too_many_tests { (n : ℕ) → (result ≡ Err (ValueFault.Limit (TooManyTests n))) ↔ (first_limit_of l.now order ≡ Some (TooManyTests n)) }
     ensures too_many_states { (n : ℕ) → (result ≡ Err (ValueFault.Limit (TooManyStates n))) ↔ (first_limit_of l.now order ≡ Some (TooManyStates n)) }
 {

@@ -18,7 +18,7 @@ use std::snapshot::Snapshot;
 pub enum SpaceFault {
     /// It has too many count vectors.
     Limit(LimitFault),
-    /// Memory is wanting.
+    /// The program is out of memory.
     Memory(AllocError),
 }
 

@@ -36,7 +36,7 @@ impl Model for Powers {
 }
 
 impl Powers {
-    /// Room for the powers of a loop of so many states. It refuses for want of memory alone.
+    /// Room for the powers of a loop of so many states. It is refused only where the program is out of memory.
     pub fn new(alloc: Global, size: usize) -> Result<Powers, AllocError>
         requires some { 1 ≤ size }
         requires few { size ≤ 64 }

@@ -211,7 +211,7 @@ impl SubsystemPower {
     }
 }
 
-/// The count vectors of a loop that has few. It refuses for want of memory alone.
+/// The count vectors of a loop that has few. It is refused only where the program is out of memory.
 fn space_of(alloc: Global, l: &Loop) -> Result<Space, AllocError>
     requires { states_of l.now.subsystems ≤ most_states }
     ensures { IfOk result (λ s. s ≡ l.now) }

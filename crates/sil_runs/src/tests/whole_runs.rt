@@ -1,4 +1,4 @@
-//! Runs of which no premise is left open: the report stands in the sink, or memory was wanting.
+//! Runs of which no premise is left open: the report stands in the sink, or the program was out of memory.
 
 use complete_run::{check_drawn, check_one_channel, check_sound};
 use sil_top::Status;

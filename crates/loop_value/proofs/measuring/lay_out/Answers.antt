@@ -3,7 +3,7 @@ use Rattle.sil_model.specs.Sizes.{channel_tests_of, states_of, most_states, most
 use Rattle.loop_value.proofs.Limits.{tests_not_first, states_not_first}
 use Rattle.loop_value.proofs.measuring.lay_out.Goals as goal
 
--- memory is wanting only where neither the tests nor the states are too many
+-- out of memory only where neither the tests nor the states are too many
 
 pub returns-in-Err-Memory-clause-too_many_tests : goal.returns-in-Err-Memory-clause-too_many_tests
 returns-in-Err-Memory-clause-too_many_tests c n =
