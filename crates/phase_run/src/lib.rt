@@ -42,7 +42,7 @@ fn pass_beats<L: Ledger>(
     chain: &Chain,
     weights: &Weights,
     beats: u64,
-    v: &mut [u128],
+    v: &mut [u64],
     dwell: &mut [u128],
     steps: &mut Steps<L>,
 )

@@ -31,7 +31,7 @@ pub fn pass_over<L: Ledger>(
     blocks: &mut BlockRoom,
     small: &mut [u64],
     small_dwell: &mut [u128],
-    v: &mut [u128],
+    v: &mut [u64],
     dwell: &mut [u128],
     steps: &mut Steps<L>,
 ) -> u64

@@ -24,7 +24,7 @@ pub fn pass_part<L: Ledger>(
     ladder: &Ladder,
     chain: &Chain,
     beats: u64,
-    v: &mut [u128],
+    v: &mut [u64],
     dwell: &mut [u128],
     steps: &mut Steps<L>,
 ) -> u64

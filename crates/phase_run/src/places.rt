@@ -69,7 +69,7 @@ impl LadderRoom {
         &mut self,
         chain: &Chain,
         beats: u64,
-        v: &mut [u128],
+        v: &mut [u64],
         dwell: &mut [u128],
         steps: &mut Steps<L>,
     ) -> u64
