@@ -25,13 +25,7 @@ use Rattle.loop_value.specs.Ends.{sum_down, sum_up}
 use Rattle.loop_value.specs.Mission.{HasReached}
 use Rattle.loop_value.specs.Records.{IsRecordOf, AreRecordsFrom, HasFed, HasFedInPart, HasFedPhase, HasFedPhaseInPart}
 use Rattle.loop_value.proofs.Figures.{weighs_down, weighs_up}
-use Rattle.loop_value.proofs.Sides.{one_side}
-
--- what is down and what is up come to all
-pub sides_all : (up : List Bool) (v : List ℕ) → sum_down up v + sum_up up v ≡ sum v
-sides_all up v =
-    sym (sum-add (length v) (λ i. if get_or up i false then 0 else get_or v i 0) (λ i. if get_or up i false then get_or v i 0 else 0))
-    ∙ sum-same (length v) _ (λ i. get_or v i 0) (λ i h. one_side (get_or up i false) (get_or v i 0)) ∙ sym (sum_of v)
+use Rattle.loop_value.proofs.Places.{sides_all}
 
 module _ (up : List Bool) (v : List ℕ) (mass : sum v ≤ 2 ^ 48) where
   ordered : pfd_lower (sum_down up v) ≤ pfd_upper (sum_up up v)
