@@ -1,6 +1,6 @@
 //! Whether the entries of a matrix and the numbers of a vector are within what is required of them.
 
-ghost use Rattle.std.specs.Prelude.{◌≡◌, ℕ, ◌<◌, ◌≤◌, ◌^◌, IsTrue, sum};
+ghost use Rattle.std.specs.Prelude.{◌≡◌, ℕ, ◌<◌, ◌≤◌, IsTrue};
 ghost use Rattle.vector_laws.specs.Matrix.{entry_of, EachEntryAtMost};
 ghost use Rattle.vector_laws.specs.Vectors.{IsMass};
 
