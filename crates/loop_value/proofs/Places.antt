@@ -1,10 +1,15 @@
--- Sums over the places of a vector, place by place, and its two sides.
-use Rattle.std.proofs.Common.{◌≡◌, ℕ, ◌+◌, ◌^◌, ◌<◌, ◌≤◌, true, false, List, length, sum, get_or, sym, ap, ◌∙◌, arith}
+-- The places of a vector: what is written to all, sums over them one by one, and the two sides.
+use Rattle.std.proofs.Common.{◌≡◌, ℕ, ◌+◌, ◌^◌, ◌<◌, ◌≤◌, true, false, List, ◌++◌, length, sum, get_or, take, drop, sym, ap, ◌∙◌, arith}
+use Rattle.std.proofs.Math.Seq.{take-append_seam}
 use Rattle.std.specs.Prelude.{Bool, if◌then◌else◌}
 use Rattle.sil_fraction.specs.Sum.{sum_below}
 use Rattle.sil_fraction.proofs.Sums.{sum-none, sum-next, sum-add, sum-same}
 use Rattle.vector_laws.proofs.Masses.{part-le, sum_of}
 use Rattle.loop_value.specs.Ends.{sum_down, sum_up}
+
+-- what is written through a slice of the whole
+pub written : (n : ℕ) (new old : List ℕ) → length new ≡ length old → n ≡ length old → take n (new ++ drop (length new) old) ≡ new
+written n new old as_many all = rw (all, ← as_many) (take-append_seam new (drop (length new) old))
 
 -- one place more
 pub next_place : (k : ℕ) (f : ℕ → ℕ) (s x : ℕ) → s ≡ sum_below k f → x ≡ f k → s + x ≡ sum_below (k + 1) f

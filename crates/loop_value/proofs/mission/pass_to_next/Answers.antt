@@ -1,5 +1,4 @@
-use Rattle.std.proofs.Common.{◌≡◌, ℕ, ◌*◌, [], ◌++◌, length, get_or, take, drop, List, ap, ◌∙◌, arith}
-use Rattle.std.proofs.Math.Seq.{take-append_seam}
+use Rattle.std.proofs.Common.{◌≡◌, ℕ, ◌*◌, [], length, get_or, List, ap, ◌∙◌, arith}
 use Rattle.std.specs.Prelude.{map}
 use Rattle.sil_model.specs.Calendar.{phases_of, test_hours_of, beats_of}
 use Rattle.sil_model.specs.Figures.{no_phase}
@@ -14,11 +13,8 @@ use Rattle.phase_way.proofs.PlanBeats.{hours-at, few_beats}
 use Rattle.loop_value.proofs.Reached.{roomy, reached_next, exist_tests, counted_tests}
 use Rattle.sil_watch.proofs.Lists.{on_error}
 use Rattle.loop_value.proofs.Told.{passed}
+use Rattle.loop_value.proofs.Places.{written}
 use Rattle.loop_value.proofs.mission.pass_to_next.Goals as goal
-
--- what is written through a slice of the whole
-written : (n : ℕ) (new old : List ℕ) → length new ≡ length old → n ≡ length old → take n (new ++ drop (length new) old) ≡ new
-written n new old as_many all = rw (all, ← as_many) (take-append_seam new (drop (length new) old))
 
 pub pass_phase-requires-clause-few : goal.pass_phase-requires-clause-few
 pass_phase-requires-clause-few g c =
