@@ -1,9 +1,8 @@
 -- The record of a phase, by its vectors, and records that are fed phase by phase.
 use Rattle.std.proofs.Common.{◌≡◌, ℕ, suc, ◌+◌, ◌-◌, ◌*◌, ◌^◌, ◌<◌, ◌≤◌, List, [], ◌∷◌, ◌++◌, length, sum, get_or, map, take, drop, refl, sym, ap, ◌∙◌, arith, zero-add, add-zero}
-use Rattle.std.specs.Prelude.{Bool, false, if◌then◌else◌}
+use Rattle.std.specs.Prelude.{Bool}
 use Rattle.std.proofs.Math.Nat.{mul-le-mul_right}
 use Rattle.std.proofs.lemmas.List.{take-map, drop-map, length-append}
-use Rattle.sil_fraction.proofs.Sums.{sum-add, sum-same}
 use Rattle.interval_fixed.proofs.Rounding.{ceiling-le, ceiling-le-ceiling, floor-le-ceiling}
 use Rattle.sil_model.specs.Calendar.{phases_of}
 use Rattle.sil_model.specs.Figures.{no_phase}
@@ -12,7 +11,6 @@ use Rattle.sil_model.specs.Sizes.{states_of}
 use Rattle.sil_model.specs.State.{is_up_of}
 use Rattle.sil_model.specs.declared.answers.Decimal18.{Decimal18}
 use Rattle.lumped_laws.specs.StateOfCounts.{state_numbered}
-use Rattle.vector_laws.proofs.Masses.{sum_of}
 use Rattle.mission_laws.specs.Missions.{pfd_lower, pfd_upper}
 use Rattle.mission_laws.specs.PhaseLaws.{HasPassed, HasSides, PassesBeats}
 use Rattle.mission_laws.proofs.Arrived.{arrival_laws}

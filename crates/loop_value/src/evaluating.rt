@@ -1,6 +1,6 @@
 //! The figures of a loop.
 
-ghost use Rattle.std.specs.Prelude.{◌≡◌, ℕ, ◌+◌, ◌*◌, ◌^◌, ◌≤◌, ◌<◌, ◌↔◌, None, Some, length, map, IfOk, OnOk, OnErr};
+ghost use Rattle.std.specs.Prelude.{◌≡◌, ℕ, ◌+◌, ◌≤◌, ◌↔◌, None, Some, length, map, IfOk, OnOk, OnErr};
 ghost use Rattle.sil_model.specs.Budget.{pfd_width_of, pfh_width_of};
 ghost use Rattle.sil_model.specs.Calendar.{phases_of};
 ghost use Rattle.sil_model.specs.Figures.{pfd_of, pfh_of, Contains18};

@@ -1,6 +1,6 @@
 //! The sizes of a loop.
 
-ghost use Rattle.std.specs.Prelude.{◌≡◌, ℕ, ◌<◌, ◌≤◌, ◌↔◌, Some, None, IfOk, OnOk};
+ghost use Rattle.std.specs.Prelude.{◌≡◌, ℕ, ◌≤◌, ◌↔◌, Some, None, IfOk, OnOk};
 ghost use Rattle.sil_model.specs.Calendar.{phases_of};
 ghost use Rattle.sil_model.specs.Sizes.{all_beats_of, channel_tests_of, states_of, most_states, most_states_of, most_beats, first_limit_of};
 ghost use Rattle.sil_model.specs.declared.answers.LimitFault.{LimitFault};

@@ -1,6 +1,6 @@
 //! What the computation of a loop needs, all of it made before the first beat.
 
-ghost use Rattle.std.specs.Prelude.{◌≡◌, ◌≤◌, ◌<◌, ◌^◌, length, replicate, slice_set, IfOk};
+ghost use Rattle.std.specs.Prelude.{◌≡◌, ◌≤◌, ◌<◌, ◌^◌, replicate, slice_set, IfOk};
 ghost use Rattle.sil_model.specs.Sizes.{all_beats_of, most_beats, states_of, most_states};
 ghost use Rattle.loop_value.specs.Mission.{IsPlanOf, IsReady, StandsAt};
 

@@ -1,6 +1,6 @@
 //! What watchers are told of a phase.
 
-ghost use Rattle.std.specs.Prelude.{◌≡◌, ℕ, suc, ◌+◌, ◌^◌, ◌<◌, ◌≤◌, length, map, sum, OnOk, OnErr};
+ghost use Rattle.std.specs.Prelude.{ℕ, ◌^◌, ◌<◌, ◌≤◌, length, map, sum, OnOk, OnErr};
 ghost use Rattle.sil_model.specs.Calendar.{phases_of};
 ghost use Rattle.mission_laws.specs.PhaseLaws.{HasPassed};
 ghost use Rattle.loop_value.specs.Mission.{IsReady, IsPlanOf};
@@ -51,11 +51,13 @@ fn record(m: &Prepared, l: &Loop, plan: &Plan, p: usize) -> PhaseRecord
     ensures { (order : ℕ) → 16 ≤ order → HasPassed l.now order p m.now.mean.items m.now.v.items → IsRecordOf l.now order p result }
 {
     let up = m.up.as_slice();
+    let mean = sides_of_means(m.mean.as_slice(), up);
+    let end = sides_of_vector(m.v.as_slice(), up);
     PhaseRecord {
         index: p as u32 + 1,
         start: plan.start(p),
         hours: plan.hours(p),
-        mean: sides_of_means(m.mean.as_slice(), up).chance_down(),
-        at_end: sides_of_vector(m.v.as_slice(), up).chance_down(),
+        mean: mean.chance_down(),
+        at_end: end.chance_down(),
     }
 }

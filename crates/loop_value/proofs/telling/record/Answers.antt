@@ -12,7 +12,7 @@ returns c =
     c.requires.ready.mean c.requires.ready.v _ refl
     (start-at c.args.plan.now.phases c.args.l.now c.args.p c.start.result (c.start.ensures no_phase) c.requires.plan.phases)
     (hours-at c.args.plan.now.phases c.args.l.now c.args.p c.hours.result (c.hours.ensures.hours no_phase) c.requires.plan.phases)
-    (c.chance_down.ensures.lo ∙ ap pfd_lower (rw (c.as_slice-up.ensures.value, c.as_slice.ensures.value) at c.sides_of_means.ensures.down))
-    (c.chance_down.ensures.hi ∙ ap pfd_upper (rw (c.as_slice-up.ensures.value, c.as_slice.ensures.value) at c.sides_of_means.ensures.up))
-    (c.chance_down-2.ensures.lo ∙ ap pfd_lower (rw (c.as_slice-up.ensures.value, c.as_slice-2.ensures.value) at c.sides_of_vector.ensures.down))
-    (c.chance_down-2.ensures.hi ∙ ap pfd_upper (rw (c.as_slice-up.ensures.value, c.as_slice-2.ensures.value) at c.sides_of_vector.ensures.up))
+    (c.chance_down.ensures.lo ∙ ap pfd_lower (rw (c.as_slice-up.ensures.value, c.as_slice.ensures.value) at c.sides_of_means-mean.ensures.down))
+    (c.chance_down.ensures.hi ∙ ap pfd_upper (rw (c.as_slice-up.ensures.value, c.as_slice.ensures.value) at c.sides_of_means-mean.ensures.up))
+    (c.chance_down-2.ensures.lo ∙ ap pfd_lower (rw (c.as_slice-up.ensures.value, c.as_slice-2.ensures.value) at c.sides_of_vector-end.ensures.down))
+    (c.chance_down-2.ensures.hi ∙ ap pfd_upper (rw (c.as_slice-up.ensures.value, c.as_slice-2.ensures.value) at c.sides_of_vector-end.ensures.up))
