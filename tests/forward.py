@@ -87,7 +87,7 @@ class Ladder:
 
     def __init__(self, lumped):
         numbers, low, self.rungs = series_weights(16)[0], 0, []
-        in_blocks = [beats for _, beats in lumped.phases if not lumped.passes_separately(beats)]
+        in_blocks = [beats for _, beats in lumped.phases if not lumped.passes_separately(beats) and not lumped.passes_by_powers(beats)]
         work, longest = sum(in_blocks) * lumped.state_count, max(in_blocks, default=0)
         greatest = min(longest, work // BLOCK_WORK) if work >= SMALL_WORK else 0
         self.is_made = greatest > 0

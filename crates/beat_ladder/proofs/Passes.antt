@@ -12,10 +12,10 @@ use Rattle.vector_laws.specs.Laws.{AreFloors, IsSumWith}
 use Rattle.vector_laws.specs.Vectors.{weigh}
 use Rattle.vector_laws.proofs.Masses.{sum-with, sum-none, sum-zeros, place-le}
 use Rattle.vector_laws.proofs.Weighing.{weigh-with, weigh-mul, weigh-none}
-use Rattle.block_laws.specs.Block.{tail_at, IsTicked, IsGathered, IsAfter, IsDwelt}
-use Rattle.block_laws.specs.BlockLaws.{lacking, EndsLaw, DwellLaw, BlockLaw}
-use Rattle.block_laws.proofs.Blocks.{block_law}
-use Rattle.block_laws.proofs.Ticks.{gathered_same, gathered_more, gathered_further}
+use Rattle.vector_laws.specs.Block.{tail_at, IsTicked, IsGathered, IsAfter, IsDwelt}
+use Rattle.vector_laws.specs.BlockLaws.{lacking, EndsLaw, DwellLaw, BlockLaw}
+use Rattle.vector_laws.proofs.Blocks.{block_law}
+use Rattle.vector_laws.proofs.Ticks.{gathered_same, gathered_more, gathered_further}
 use Rattle.beat_ladder.specs.Powers.{power_of, HoldsPower, HoldTails, IsClose, most_missing}
 use Rattle.beat_ladder.specs.Losses.{block_loss, block_dwell_loss, block_products}
 use Rattle.beat_ladder.proofs.Powers.{power_stays}

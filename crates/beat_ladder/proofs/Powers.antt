@@ -8,7 +8,7 @@ use Rattle.model_laws.proofs.Beats.{below_one_beat}
 use Rattle.sil_model.specs.WeightTable.{weight_of}
 use Rattle.series_weights.proofs.Below.{below_term, in_units-small}
 use Rattle.series_weights.proofs.Sums.{weight_zero}
-use Rattle.block_laws.specs.Block.{StayBelow}
+use Rattle.vector_laws.specs.Block.{StayBelow}
 use Rattle.beat_ladder.specs.Powers.{square_at, power_of}
 use Rattle.beat_ladder.proofs.BeatSums.{IsUnder, beats-add}
 

@@ -10,9 +10,9 @@ use Rattle.sil_fraction.specs.Sum.{sum_below}
 use Rattle.sil_fraction.proofs.Sums.{sum-same, sum-add, sum-mul, sum-append}
 use Rattle.sil_model.specs.WeightTable.{weight_of}
 use Rattle.series_weights.proofs.Sums.{weight_zero}
-use Rattle.block_laws.specs.Block.{StayBelow}
-use Rattle.block_laws.proofs.Moments.{mass_within, steps_within}
-use Rattle.block_laws.proofs.Sums.{tails-sum}
+use Rattle.vector_laws.specs.Block.{StayBelow}
+use Rattle.vector_laws.proofs.Moments.{mass_within, steps_within}
+use Rattle.vector_laws.proofs.Sums.{tails-sum}
 use Rattle.vector_laws.proofs.Masses.{past, sum_of, sum-zeros}
 use Rattle.beat_ladder.specs.Powers.{square_at, power_of, at_place, HoldsPower, HoldTails, MayServe, IsClose}
 use Rattle.beat_ladder.proofs.Powers.{power_stays}

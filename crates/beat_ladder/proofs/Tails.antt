@@ -5,9 +5,9 @@ use Rattle.sil_fraction.specs.Sum.{sum_below}
 use Rattle.sil_fraction.proofs.Sums.{sum-same, sum-append}
 use Rattle.sil_model.specs.Series.{Values}
 use Rattle.vector_laws.proofs.Masses.{sum_of, sum-zeros, place-le}
-use Rattle.block_laws.specs.Block.{tail_at, IsGathered}
-use Rattle.block_laws.proofs.Moments.{mass_within}
-use Rattle.block_laws.proofs.Sums.{tails-sum}
+use Rattle.vector_laws.specs.Block.{tail_at, IsGathered}
+use Rattle.vector_laws.proofs.Moments.{mass_within}
+use Rattle.vector_laws.proofs.Sums.{tails-sum}
 use Rattle.beat_ladder.specs.Powers.{power_of, at_place, HoldsPower, HoldTails, IsClose}
 use Rattle.beat_ladder.proofs.Powers.{power_stays}
 use Rattle.beat_ladder.proofs.Lists.{sum_of-drop}

@@ -4,7 +4,7 @@ ghost use Rattle.std.specs.Prelude.{◌≡◌, ℕ, ◌+◌, ◌*◌, ◌^◌, �
 ghost use Rattle.sil_model.specs.Series.{Values};
 ghost use Rattle.vector_laws.specs.Vectors.{IsMass};
 ghost use Rattle.vector_laws.specs.Laws.{IsSumWith};
-ghost use Rattle.block_laws.specs.Block.{IsTick, IsTicked, IsGathered, tail_at};
+ghost use Rattle.vector_laws.specs.Block.{IsTick, IsTicked, IsGathered, tail_at};
 ghost use Rattle.beat_ladder.specs.Powers.{power_of};
 ghost use Rattle.beat_ladder.specs.Rungs.{IsUsable};
 ghost use Rattle.beat_ladder.specs.Losses.{IsStep};

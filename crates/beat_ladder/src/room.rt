@@ -2,7 +2,7 @@
 
 ghost use Rattle.std.specs.Prelude.{◌≡◌, ℕ, ◌+◌, ◌*◌, ◌^◌, ◌<◌, ◌≤◌, length, sum, slice_index, vec_len, All, IfOk};
 ghost use Rattle.vector_laws.specs.Vectors.{IsMass};
-ghost use Rattle.block_laws.specs.Block.{IsAfter, IsDwelt};
+ghost use Rattle.vector_laws.specs.Block.{IsAfter, IsDwelt};
 ghost use Rattle.beat_ladder.specs.Rungs.{IsUsable};
 ghost use Rattle.beat_ladder.specs.Losses.{IsStep, block_loss, block_dwell_loss, block_products};
 

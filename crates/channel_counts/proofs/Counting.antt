@@ -9,6 +9,7 @@ use Rattle.sil_model.specs.State.{FullState, is_same_state, is_same_chan, count_
 use Rattle.sil_model.specs.Events.{Failure, Kind, failed, source, target, move_one, move_all, move_first, moved}
 use Rattle.sil_model.specs.Events.Failure.{Undetected, Uncovered, Detected}
 use Rattle.sil_model.specs.Events.Kind.{Fails, Returns}
+use Rattle.sil_model.specs.Sizes.{channel_states}
 use Rattle.sil_model.specs.Counts.{place_of, count_in, with_count, moved_in}
 use Rattle.sil_model.specs.declared.parts.Chan.{Chan}
 use Rattle.sil_model.specs.declared.parts.Chan.TheVariants.{Work, Hidden, Deep, Repair}
@@ -40,7 +41,7 @@ advance (x ∷ xs) rest {g = g} {a = a} p =
 
 -- the counts of the groups after the first one
 module _ (a b c d : ℕ) (cs : List ℕ) where
-  place_next : (g : ℕ) (k : Chan) → 4 * suc g + place_of k ≡ suc (suc (suc (suc (4 * g + place_of k))))
+  place_next : (g : ℕ) (k : Chan) → channel_states * suc g + place_of k ≡ suc (suc (suc (suc (channel_states * g + place_of k))))
   place_next g k = omega arith
 
   pub count_in-next : (g : ℕ) (k : Chan) → count_in (a ∷ b ∷ c ∷ d ∷ cs) (suc g) k ≡ count_in cs g k

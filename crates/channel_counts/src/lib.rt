@@ -5,29 +5,15 @@
 #![tactic(auto)]
 
 ghost use Rattle.std.specs.Prelude.{◌≡◌, ℕ, ◌+◌, ◌*◌, ◌<◌, ◌≤◌, ◌^◌, length};
-ghost use Rattle.sil_model.specs.LoopValue.{groups_by_test};
 ghost use Rattle.sil_model.specs.Counts.{place_of, count_in, moved_in};
 ghost use Rattle.channel_counts.specs.GroupSums.{sum_in, moved_together};
 
-use sil_model::{Chan, Subsystem};
-
-/// How many states a channel has, and so how many counts a group.
-pub const STATES: usize = 4;
-
-/// How many groups the channels of a subsystem make: one where they are tested together, or not at all.
-pub fn groups_in(u: &Subsystem) -> usize
-    ensures { (i : ℕ) → result ≡ length (groups_by_test i u.now.vote.n u.now.test) }
-{
-    match u.test {
-        Some(plan) if plan.stagger != 0 => usize::from(u.vote.n),
-        _ => 1,
-    }
-}
+use sil_model::{CHANNEL_STATES, Chan};
 
 /// The place of a state among the counts of a group.
 fn place_of(k: Chan) -> usize
     ensures place { result ≡ place_of k }
-    ensures inside { result < STATES }
+    ensures inside { result < CHANNEL_STATES }
 {
     match k {
         Chan::Work => 0,
@@ -39,17 +25,17 @@ fn place_of(k: Chan) -> usize
 
 /// How many channels of the group `g` are in a state.
 pub fn count_in(counts: &[u8], g: usize, k: Chan) -> u8
-    requires { STATES * (g + 1) ≤ length counts.now }
+    requires { CHANNEL_STATES * (g + 1) ≤ length counts.now }
     ensures count { result ≡ count_in counts.now g k }
     ensures small { result ≤ 255 }
 {
-    counts[STATES * g + place_of(k)]
+    counts[CHANNEL_STATES * g + place_of(k)]
 }
 
 /// How many channels of the `n` groups from `first` on are in a state.
 pub fn sum_in(counts: &[u8], first: usize, n: usize, k: Chan) -> usize
     requires few { n ≤ 48 }
-    requires inside { STATES * (first + n) ≤ length counts.now }
+    requires inside { CHANNEL_STATES * (first + n) ≤ length counts.now }
     ensures sum { result ≡ sum_in counts.now first n k }
     ensures small { result ≤ 255 * n }
 {
@@ -62,11 +48,11 @@ pub fn sum_in(counts: &[u8], first: usize, n: usize, k: Chan) -> usize
 
 /// `n` channels of the group `g` leave the state `from` for the state `to`.
 pub fn move_in(counts: &mut [u8], g: usize, from: Chan, to: Chan, n: u8)
-    requires inside { STATES * (g + 1) ≤ length counts.old }
+    requires inside { CHANNEL_STATES * (g + 1) ≤ length counts.old }
     requires enough { n ≤ count_in counts.old g from }
     requires room { count_in counts.old g to + n < 2 ^ 8 }
     ensures { counts.new ≡ moved_in counts.old g from to n }
 {
-    counts[STATES * g + place_of(from)] -= n;
-    counts[STATES * g + place_of(to)] += n;
+    counts[CHANNEL_STATES * g + place_of(from)] -= n;
+    counts[CHANNEL_STATES * g + place_of(to)] += n;
 }

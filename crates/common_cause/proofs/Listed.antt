@@ -3,6 +3,7 @@ use Rattle.std.proofs.Common.{◌≡◌, ℕ, zero, suc, ◌+◌, ◌*◌, ◌<�
 use Rattle.std.proofs.Math.Seq.{drop-cons}
 use Rattle.std.proofs.Math.ListN.{drop_of_length-le}
 use Rattle.std.proofs.lemmas.List.{append-nil}
+use Rattle.sil_model.specs.Budget.{group_events as each_group, common_causes, lumped_events_of}
 use Rattle.sil_model.specs.LoopValue.{groups_of, groups_from, groups_by_test}
 use Rattle.sil_model.specs.declared.parts.Subsystem.{Subsystem}
 use Rattle.channel_counts.proofs.Subsystems.{span-same}
@@ -43,11 +44,11 @@ unfolding lump_events_from
 subsystems-end us i first es h p = sym (append-nil es) ∙ rw (drop_of_length-le us h) at p
 
 -- how many events there are
-length-groups_events : (u : Subsystem) (i g n : ℕ) → length (groups_events u i g n) ≡ 4 * n
+length-groups_events : (u : Subsystem) (i g n : ℕ) → length (groups_events u i g n) ≡ each_group * n
 length-groups_events u i g zero = omega arith
 length-groups_events u i g (suc n) = omega (arith, length-append (group_events u i g) (groups_events u i (suc g) n), length-groups_events u i (suc g) n)
 
-length-from : (us : List Subsystem) (i g : ℕ) → length (lump_events_from i g us) ≡ 4 * length (groups_from i us) + 3 * length us
+length-from : (us : List Subsystem) (i g : ℕ) → length (lump_events_from i g us) ≡ each_group * length (groups_from i us) + common_causes * length us
 unfolding lump_events_from
 length-from [] i g = omega arith
 length-from (u ∷ us) i g =
@@ -61,6 +62,6 @@ length-from (u ∷ us) i g =
       span-same i 0 u.vote.n u.test,
     )
 
-pub length-events : (us : List Subsystem) → length (lump_events_of us) ≡ 4 * length (groups_of us) + 3 * length us
-unfolding lump_events_of groups_of
+pub length-events : (us : List Subsystem) → length (lump_events_of us) ≡ lumped_events_of us
+unfolding lump_events_of groups_of lumped_events_of
 length-events us = length-from us 0 0

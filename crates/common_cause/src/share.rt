@@ -4,8 +4,8 @@ ghost use Rattle.std.specs.Prelude.{◌≡◌, ℕ, ◌+◌, ◌*◌, ◌<◌, l
 ghost use Rattle.sil_model.specs.LoopValue.{groups_of};
 ghost use Rattle.common_cause.specs.Shares.{share_in, IsShareOf, share_at};
 
-use channel_counts::{STATES, groups_in, sum_in};
-use sil_model::{Chan, Loop, Subsystem};
+use channel_counts::sum_in;
+use sil_model::{CHANNEL_STATES, Chan, Loop, Subsystem};
 
 /// A share `num / den` of the repair crews: above 0 and at most 1.
 #[derive(Clone, Copy, Debug, PartialEq, Eq)]
@@ -30,15 +30,15 @@ pub fn share_in(u: &Subsystem, in_repair: usize) -> Share
 /// The share that each channel in repair of the subsystem of a number has, at a count vector.
 pub fn share_at(l: &Loop, subsystem: usize, counts: &[u8]) -> Share
     requires inside { subsystem < length l.now.subsystems }
-    requires counts { length counts.now ≡ STATES * length (groups_of l.now.subsystems) }
+    requires counts { length counts.now ≡ CHANNEL_STATES * length (groups_of l.now.subsystems) }
     ensures { result ≡ share_at l.now.subsystems counts.now subsystem }
 {
     // The values of a loop are in their ranges.
     let _ = l.mission();
     let mut first = 0;
     for i in 0..subsystem {
-        first += groups_in(l.subsystem(i));
+        first += l.subsystem(i).groups();
     }
     let u = l.subsystem(subsystem);
-    share_in(u, sum_in(counts, first, groups_in(u), Chan::Repair))
+    share_in(u, sum_in(counts, first, u.groups(), Chan::Repair))
 }

@@ -5,8 +5,7 @@ use Rattle.std.proofs.lemmas.List.{append-nil}
 use Rattle.sil_model.specs.LoopValue.{LoopValue}
 use Rattle.loop_file.specs.LoopFile.{IsLoopOf, HasFault}
 use Rattle.sil_io.specs.Handed.{Handed}
-use Rattle.verb_table.specs.Table.{Row, verb_table, need, mode, series}
-use Rattle.verb_table.specs.declared.verb.Positional.TheVariants.{Name}
+use Rattle.verb_table.specs.Table.{verb_table, check_row}
 use Rattle.verb_table.specs.declared.verb.Verb.TheVariants.{Check}
 use Rattle.sil_watch.specs.Watching.{WatcherValue}
 use Rattle.sil_watch.specs.Kinds.{no_kinds}
@@ -35,13 +34,10 @@ words = codes "check" ∷ codes "loop.toml" ∷ []
 abbrev pub asked : Ask
 asked = record { verb = Check; name = codes "loop.toml"; number = 0; need = None; mode = Low; watch = no_kinds }
 
-abbrev row : Row
-row = record { verb = Check; word = codes "check"; positional = Name; choices = need ∷ mode ∷ series ∷ [] }
-
 abbrev reading : Reading
 reading = record { pieces = plain (codes "loop.toml") ∷ []; further = None }
 
-is_call : IsCall words row reading
+is_call : IsCall words check_row reading
 unfolding verb_table
 is_call = record {
   word = codes "check";
@@ -52,7 +48,7 @@ is_call = record {
 }
 
 pub asks : Asks words asked
-asks = ((row, reading, is_call), λ other r is. one_ask words row other reading r is_call is)
+asks = ((check_row, reading, is_call), λ other r is. one_ask words check_row other reading r is_call is)
 
 reads : reads_file Check ≡ true
 unfolding verb_table

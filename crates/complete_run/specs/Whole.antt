@@ -17,6 +17,6 @@ pub record AreSound (bytes : List ℕ) (l : LoopValue) : Type 0 where
 abbrev pub AreUnsound : List ℕ → Type 0
 AreUnsound bytes = (l : LoopValue) → ¬ AreSound bytes l
 
--- the true report of the loop was written, and nothing else; or memory was wanting, and nothing was written
+-- the true report of the loop was written, and nothing else; or the program was out of memory, and nothing was written
 abbrev pub IsWhole : LoopValue → Status → List ℕ → Type 0
 IsWhole l status written = ((status ≡ Done) × IsTrueReport l written) ⊎ ((status ≡ Memory) × (written ≡ []))

@@ -52,7 +52,7 @@ fn words_of_check(alloc: Global) -> Result<Vec<String>, AllocError>
 
 /// The status of `check loop.toml` over a shelf that holds this file under that name, and the sink that the run wrote to.
 pub fn check_file(alloc: Global, file: &[u8]) -> Result<(Status, MemSink), AllocError>
-    // Of each file without fault, whose loop is within the limits, the whole report is written, or memory was wanting.
+    // Of each file without fault, whose loop is within the limits, the whole report is written, or the program was out of memory.
     ensures { IfOk result (λ ended. (l : LoopValue) → AreSound file.now l → IsWhole l ended.0 ended.1.written) }
 {
     let mut shelf = MemShelf::new(alloc);

@@ -1,3 +1,6 @@
+pub mod Closed
+pub mod Lists
+pub mod Numbering
 pub mod Exchange
 pub mod Pairs
 pub mod Carried

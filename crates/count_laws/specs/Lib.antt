@@ -2,3 +2,4 @@ pub mod CountsOf
 pub mod AfterTests
 pub mod SameCounts
 pub mod Laws
+pub mod GroupChannels

@@ -10,6 +10,9 @@
 //!   of one asks and changes that one alone.
 //! - `proofs/Pays`: what the items of a schedule pay.
 //! - `proofs/Reorder`, `SameCounts`: exchanges lead to every full state with the same counts.
+//!
+//! Of count vectors themselves: `proofs/Closed`, `Lists`, `Numbering` say that count vectors and their numbers are each
+//! other's inverse. `specs/GroupChannels` has the channels of each group in the calendar of tests.
 #![tactic(auto)]
 
 ghost use Rattle.sil_model.specs.LoopValue.{LoopValue};

@@ -1,4 +1,3 @@
-pub mod RowVectors
 pub mod Products
 pub mod Weights
 pub mod RowProducts

@@ -8,10 +8,10 @@ use Rattle.sil_fraction.proofs.Sums.{below-same, below-add, below-append, add-le
 use Rattle.sil_model.specs.Series.{Values, times}
 use Rattle.model_laws.specs.Polynomial.{IsLinear, means_of}
 use Rattle.model_laws.proofs.Operators.{times-linear, times-add, summed}
-use Rattle.dense_power.specs.Matrix.{Matrix, entry_of, EachEntryAtMost}
-use Rattle.dense_power.specs.Rows.{IsBelowOperator, EachRowAtMost, EachRowNear}
+use Rattle.vector_laws.specs.Matrix.{Matrix, entry_of, EachEntryAtMost}
+use Rattle.vector_laws.specs.Rows.{IsBelowOperator, EachRowAtMost, EachRowNear}
 use Rattle.dense_power.specs.Powers.{end_lack_of, dwell_lack_of, IsJoined}
-use Rattle.dense_power.proofs.RowVectors.{row_sum, row_weight, row_below, are_below, row_most, are_most, row_near, are_near}
+use Rattle.vector_laws.proofs.RowVectors.{row_sum, row_weight, row_below, are_below, row_most, are_most, row_near, are_near}
 use Rattle.dense_power.proofs.Products.{rounded, term-le-sum, sum-rounded-le, sum-rounded-ge}
 use Rattle.dense_power.proofs.Weights.{weight, weight-rounded-le}
 use Rattle.dense_power.proofs.Lacks.{dwell_joined, without_size}

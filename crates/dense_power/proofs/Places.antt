@@ -1,7 +1,7 @@
 -- The place of an entry in the entries row by row.
 use Rattle.std.proofs.Common.{◌≡◌, ℕ, ◌+◌, ◌*◌, ◌/◌, ◌%◌, ◌^◌, ◌<◌, slice_index, ap, ◌∙◌, refl}
 use Rattle.std.proofs.lemmas.Nat.{div-add-mod', div_below, mod_below}
-use Rattle.dense_power.specs.Matrix.{Matrix, entry_of}
+use Rattle.vector_laws.specs.Matrix.{Matrix, entry_of}
 
 -- each place is that of an entry
 pub entry_at : (m : Matrix) (n k : ℕ) → m.size ≡ n → entry_of m (k / n) (k % n) ≡ slice_index m.entries k

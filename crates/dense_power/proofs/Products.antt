@@ -6,6 +6,7 @@ use Rattle.std.proofs.lemmas.Bool.{cases_lt}
 use Rattle.sil_fraction.specs.Sum.{sum_below}
 use Rattle.vector_laws.proofs.Masses.{sum-constant}
 use Rattle.sil_fraction.proofs.Sums.{sum-le, sum-same, sum-add, sum-mul, sum-next}
+use Rattle.dense_power.specs.declared.dense.TheConstants.{MOST_ROWS}
 
 -- one term of a sum is at most the sum
 pub term-le-sum : (n k : ℕ) (f : ℕ → ℕ) → k < n → f k ≤ sum_below n f
@@ -103,9 +104,16 @@ sum_more s t x k f h e g = rw sum-next (omega (arith, h, e, g))
 pub mul-square : (n : ℕ) → n * n ^ 2 ≡ n ^ 3
 mul-square n = omega (arith, pow-suc n 2)
 
--- a sum of at most 64 products of factors that are not too great, rounded down
-pub product_small : (n : ℕ) (x y : ℕ → ℕ) → n ≤ 64 → ((k : ℕ) → k < n → x k ≤ 2 ^ 48) → ((k : ℕ) → k < n → y k ≤ 2 ^ 68)
+-- a sum of no more products than a matrix has rows, of factors that are not too great, rounded down
+pub product_small : (n : ℕ) (x y : ℕ → ℕ) → n ≤ MOST_ROWS → ((k : ℕ) → k < n → x k ≤ 2 ^ 48) → ((k : ℕ) → k < n → y k ≤ 2 ^ 68)
     → sum_below n (λ k. x k * y k) / 2 ^ 48 ≤ 2 ^ 74
 product_small n x y few h g =
     let each : sum_below n (λ k. x k * y k) ≤ sum_below n (λ k. 2 ^ 48 * 2 ^ 68) = sum-le n _ _ (λ k p. mul-le (x k) (y k) (2 ^ 48) (2 ^ 68) (h k p) (g k p)) in
     omega (arith, each, sum-constant n (2 ^ 48 * 2 ^ 68), div-mul-le_self (sum_below n (λ k. x k * y k)) (2 ^ 48))
+
+-- the same where the second factors are at most 1 too
+pub product_within : (n : ℕ) (x y : ℕ → ℕ) → n ≤ MOST_ROWS → ((k : ℕ) → k < n → x k ≤ 2 ^ 48) → ((k : ℕ) → k < n → y k ≤ 2 ^ 48)
+    → sum_below n (λ k. x k * y k) / 2 ^ 48 ≤ 2 ^ 54
+product_within n x y few h g =
+    let each : sum_below n (λ k. x k * y k) ≤ sum_below n (λ k. 2 ^ 48 * 2 ^ 48) = sum-le n _ _ (λ k p. mul-le (x k) (y k) (2 ^ 48) (2 ^ 48) (h k p) (g k p)) in
+    omega (arith, each, sum-constant n (2 ^ 48 * 2 ^ 48), div-mul-le_self (sum_below n (λ k. x k * y k)) (2 ^ 48))

@@ -7,9 +7,9 @@ use Rattle.sil_model.specs.Series.{Values}
 use Rattle.vector_laws.specs.Vectors.{weigh}
 use Rattle.vector_laws.proofs.Masses.{sum_of}
 use Rattle.vector_laws.proofs.Weighing.{weigh-below}
-use Rattle.dense_power.specs.Matrix.{Matrix, entry_of, IsRowProductDown}
-use Rattle.dense_power.specs.Rows.{IsBelowOperator, EachRowAtMost, EachRowNear}
-use Rattle.dense_power.proofs.RowVectors.{row_below, row_most, row_near}
+use Rattle.vector_laws.specs.Matrix.{Matrix, entry_of, IsRowProductDown}
+use Rattle.vector_laws.specs.Rows.{IsBelowOperator, EachRowAtMost, EachRowNear}
+use Rattle.vector_laws.proofs.RowVectors.{row_below, row_most, row_near}
 use Rattle.dense_power.proofs.Products.{rounded, sum-rounded-most, sum-rounded-least}
 use Rattle.dense_power.proofs.Weights.{weight, weight-rounded-le}
 

@@ -1,6 +1,6 @@
 -- The end matrix and the dwell sum of a number of beats.
 use Rattle.std.specs.Prelude.{◌≡◌, ℕ, ◌+◌, ◌-◌, ◌*◌, ◌/◌, ◌^◌, ◌<◌}
-use Rattle.dense_power.specs.Matrix.{Matrix, entry_of, product_of, IsProductDown}
+use Rattle.vector_laws.specs.Matrix.{Matrix, entry_of, product_of, IsProductDown}
 
 -- how much a row of the end matrix of so many beats lacks at most, where a row of one beat lacks at most r
 abbrev pub end_lack_of : ℕ → ℕ → ℕ → ℕ

@@ -2,7 +2,7 @@
 use Rattle.std.proofs.Common.{◌≡◌, ℕ, ◌+◌, ◌*◌, ◌/◌, ◌%◌, ◌<◌, ◌≢◌, refl, sym, ap, ◌∙◌, arith}
 use Rattle.std.proofs.Math.Nat.{mod-add-div, div-div-eq-div-mul, mul-pos}
 use Rattle.std.proofs.lemmas.Nat.{div-mul-add, mod-mul-add, div_below, mod_below}
-use Rattle.digit_laws.specs.Digits.{digit_of}
+use Rattle.separate_laws.specs.Digits.{digit_of}
 use Rattle.digit_product.specs.Lines.{place_of}
 
 -- a quotient and a remainder, by the sum that they come from

@@ -8,7 +8,7 @@ use Rattle.std.proofs.lemmas.List.Sums.{sum_by-cons, sum_by-append}
 use Rattle.sil_fraction.specs.Sum.{sum_below}
 use Rattle.sil_fraction.proofs.Sums.{sum-none, sum-next, sum-append, sum-le, sum-mul, sum-same}
 use Rattle.vector_laws.proofs.Masses.{sum_of, sum-zeros, past}
-use Rattle.dense_power.specs.Matrix.{Matrix, entry_of, EachEntryAtMost}
+use Rattle.vector_laws.specs.Matrix.{Matrix, entry_of, EachEntryAtMost}
 use Rattle.digit_product.specs.declared.column.Entry.{Entry}
 use Rattle.digit_product.specs.Columns.{weighed_from, AreEntries}
 use Rattle.digit_product.specs.Lines.{place_of, brought}

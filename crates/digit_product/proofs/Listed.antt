@@ -4,9 +4,9 @@ use Rattle.std.specs.Prelude.{All, ◌⊎◌, Some}
 use Rattle.std.proofs.lemmas.Bool.{cases_lt, cases_eq}
 use Rattle.std.proofs.lemmas.Nat.{mul-add-lt}
 use Rattle.std.proofs.lemmas.List.Elements.{All-append, All-cons, All-nil, All-pop}
-use Rattle.digit_laws.specs.Digits.{digit_of}
+use Rattle.separate_laws.specs.Digits.{digit_of}
 use Rattle.digit_product.specs.Lines.{place_of, brought, AreLines}
-use Rattle.dense_power.specs.Matrix.{Matrix}
+use Rattle.vector_laws.specs.Matrix.{Matrix}
 use Rattle.digit_product.specs.declared.column.Entry.{Entry}
 use Rattle.digit_product.specs.Columns.{AreEntries, weighed_from}
 use Rattle.digit_product.proofs.Digits.{same-parts, digit-at, other-digit}

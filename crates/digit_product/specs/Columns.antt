@@ -1,7 +1,7 @@
 -- A column of a matrix without its zeros.
 use Rattle.std.specs.Prelude.{◌≡◌, ℕ, ◌+◌, ◌*◌, ◌≤◌, List, length, slice_index, sum_by, All}
 use Rattle.sil_fraction.specs.Sum.{sum_below}
-use Rattle.dense_power.specs.Matrix.{Matrix, entry_of}
+use Rattle.vector_laws.specs.Matrix.{Matrix, entry_of}
 use Rattle.digit_product.specs.declared.column.Entry.{Entry}
 
 -- the sum of the weights, each times the number at its offset

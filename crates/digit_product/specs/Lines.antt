@@ -1,8 +1,8 @@
 -- The numbers of a vector that differ in one digit alone make a line.
 use Rattle.std.specs.Prelude.{◌≡◌, ℕ, ◌+◌, ◌*◌, ◌/◌, ◌^◌, ◌<◌, ◌≤◌, ◌≢◌, List, length, slice_index, All}
 use Rattle.sil_fraction.specs.Sum.{sum_below}
-use Rattle.dense_power.specs.Matrix.{Matrix, entry_of}
-use Rattle.digit_laws.specs.Digits.{digit_of}
+use Rattle.vector_laws.specs.Matrix.{Matrix, entry_of}
+use Rattle.separate_laws.specs.Digits.{digit_of}
 
 -- the place of the number with this digit, with `low` below the digit and `high` above it
 abbrev pub place_of : ℕ → ℕ → ℕ → ℕ → ℕ → ℕ

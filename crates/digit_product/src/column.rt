@@ -1,16 +1,13 @@
 //! A column of a matrix, without its zeros.
 
 ghost use Rattle.std.specs.Prelude.{◌≡◌, ℕ, ◌+◌, ◌*◌, ◌/◌, ◌^◌, ◌<◌, ◌≤◌, ◌++◌, [], ◌∷◌, length, All};
-ghost use Rattle.dense_power.specs.Matrix.{EachEntryAtMost};
+ghost use Rattle.vector_laws.specs.Matrix.{EachEntryAtMost};
 ghost use Rattle.digit_product.specs.Columns.{AreEntries, weighed_from};
 
-use dense_power::Dense;
+use dense_power::{Dense, MOST_ROWS};
 use sil_model::Steps;
 use std::marker::Model;
 use std::sync::ledger::Ledger;
-
-/// The greatest size of a matrix.
-const MOST: usize = 64;
 
 /// An entry of a column that is not 0.
 #[derive(Clone, Copy)]
@@ -24,19 +21,20 @@ pub struct Entry {
 /// The entries of a column that are not 0. Contracts see it as their list.
 #[derive(Drop)]
 pub struct Column {
-    entries: [Entry; MOST],
+    entries: [Entry; MOST_ROWS],
     len: usize,
 }
 
 impl Model for Column {
     ghost use Rattle.std.specs.Prelude.{List, ◌≤◌, take};
+    ghost use Rattle.dense_power.specs.declared.dense.TheConstants.{MOST_ROWS};
     ghost use Rattle.digit_product.specs.declared.column.Entry.{Entry};
 
     ghost Value = { List Entry };
 
     ghost view = { λ c. take c.len c.entries };
 
-    ghost invariant = { λ c. c.len ≤ 64 };
+    ghost invariant = { λ c. c.len ≤ MOST_ROWS };
 }
 
 impl Column {
@@ -48,14 +46,14 @@ impl Column {
             entries: [Entry {
                 offset: 0,
                 weight: 0,
-            }; MOST],
+            }; MOST_ROWS],
             len: 0,
         }
     }
 
     /// Adds an entry.
     fn push(&mut self, entry: Entry)
-        requires { length self.old < 64 }
+        requires { length self.old < MOST_ROWS }
         ensures { self.new ≡ self.old ++ entry ∷ [] }
     {
         self.entries[self.len] = entry;

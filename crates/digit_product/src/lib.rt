@@ -9,8 +9,9 @@ mod column;
 mod lines;
 
 ghost use Rattle.std.specs.Prelude.{◌≡◌, ℕ, ◌+◌, ◌*◌, ◌/◌, ◌^◌, ◌<◌, ◌≤◌, ◌≢◌, length, sum, slice_index, All};
-ghost use Rattle.dense_power.specs.Matrix.{EachEntryAtMost};
-ghost use Rattle.digit_laws.specs.Digits.{IsAlongDown};
+ghost use Rattle.sil_model.specs.Sizes.{most_states};
+ghost use Rattle.vector_laws.specs.Matrix.{EachEntryAtMost};
+ghost use Rattle.separate_laws.specs.Digits.{IsAlongDown};
 ghost use Rattle.digit_product.specs.Columns.{weighed_from};
 
 use column::Column;
@@ -22,7 +23,7 @@ use std::sync::ledger::Ledger;
 /// Makes `out` what a matrix brings of a vector along the digit of this stride: each number is rounded down once.
 ///
 /// The matrix is in units of 2^-48, and its entries are at most 1. The vector has so many blocks, each of `stride * size`
-/// numbers. It has at most 4,096 numbers, which come to 2^63 at most.
+/// numbers. It has no more numbers than a loop has states, and they come to 2^63 at most.
 pub fn along_down<L: Ledger>(
     matrix: &Dense,
     stride: usize,
@@ -33,7 +34,7 @@ pub fn along_down<L: Ledger>(
 )
     requires some { 0 < stride }
     requires v { length v.now ≡ stride * matrix.now.size * blocks }
-    requires few { length v.now ≤ 4096 }
+    requires few { length v.now ≤ most_states }
     requires out { length out.old ≡ length v.now }
     requires mass { sum v.now ≤ 2 ^ 63 }
     requires small { EachEntryAtMost matrix.now (2 ^ 48) }

@@ -1,6 +1,7 @@
 //! The lines of a vector: numbers that differ in one digit alone.
 
 ghost use Rattle.std.specs.Prelude.{◌≡◌, ℕ, ◌+◌, ◌*◌, ◌<◌, ◌≤◌, ◌++◌, [], ◌∷◌, length, slice_index, IsTrue};
+ghost use Rattle.sil_model.specs.Sizes.{most_states};
 ghost use Rattle.digit_product.specs.Lines.{AreLines};
 
 use sil_model::MOST_STATES;
@@ -18,12 +19,13 @@ pub struct Lines {
 
 impl Model for Lines {
     ghost use Rattle.std.specs.Prelude.{List, ℕ, ◌≤◌, take};
+    ghost use Rattle.sil_model.specs.Sizes.{most_states};
 
     ghost Value = { List ℕ };
 
     ghost view = { λ l. take l.len l.starts };
 
-    ghost invariant = { λ l. l.len ≤ 4096 };
+    ghost invariant = { λ l. l.len ≤ most_states };
 }
 
 impl Lines {
@@ -39,8 +41,8 @@ impl Lines {
 
     /// Adds a line.
     fn push(&mut self, start: usize)
-        requires room { length self.old < 4096 }
-        requires start { start < 4096 }
+        requires room { length self.old < most_states }
+        requires start { start < most_states }
         ensures { self.new ≡ self.old ++ start ∷ [] }
     {
         self.starts[self.len] = start as u16;
@@ -52,7 +54,7 @@ impl Lines {
         requires some { 0 < stride }
         requires more { 0 < size }
         requires v { length v.now ≡ stride * size * blocks }
-        requires few { length v.now ≤ 4096 }
+        requires few { length v.now ≤ most_states }
         ensures { AreLines stride size (blocks * stride) v.now result }
     {
         let mut lines = Lines::new();
@@ -67,7 +69,7 @@ impl Lines {
         requires some { 0 < stride }
         requires more { 0 < size }
         requires block { block * size * stride + size * stride ≤ length v.now }
-        requires few { length v.now ≤ 4096 }
+        requires few { length v.now ≤ most_states }
         requires before { AreLines stride size (block * stride) v.now self.old }
         ensures { AreLines stride size ((block + 1) * stride) v.now self.new }
     {

@@ -15,7 +15,7 @@ use Rattle.sil_model.specs.Pay.Mode.{Entry}
 use Rattle.sil_model.specs.Budget.{failure_rate_of}
 use Rattle.sil_model.specs.declared.parts.Chan.TheVariants.{Work}
 use Rattle.sil_model.specs.declared.parts.Subsystem.{Subsystem}
-use Rattle.lumping.proofs.Numbering.{counts_numbered-valid}
+use Rattle.count_laws.proofs.Numbering.{counts_numbered-valid}
 use Rattle.lumped_laws.specs.CountsOfState.{counts_of_state}
 use Rattle.lumped_laws.specs.StateOfCounts.{state_of_counts, state_numbered}
 use Rattle.lumped_laws.specs.PayList.{payoff_list}
@@ -23,7 +23,8 @@ use Rattle.lumped_laws.proofs.States.{counts-back, state-full}
 use Rattle.common_cause.specs.declared.event.Rate.TheVariants.{Fails}
 use Rattle.common_cause.specs.declared.event.LumpEvent.{LumpEvent}
 use Rattle.common_cause.specs.LumpEvents.{lump_events_of}
-use Rattle.entry_rates.specs.Entered.{IsCountsOf, IsInLoop, is_up_by, rate_down, rates_down, entered_from}
+use Rattle.common_cause.specs.InLoop.{IsCountsOf, IsInLoop}
+use Rattle.entry_rates.specs.Entered.{is_up_by, rate_down, rates_down, entered_from}
 use Rattle.entry_rates.proofs.Turn.{answers_up}
 use Rattle.entry_rates.proofs.Known.{events-known}
 use Rattle.entry_rates.proofs.Entries.{entered-up}

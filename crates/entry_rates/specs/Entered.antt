@@ -1,8 +1,7 @@
 -- The rate at which events between count vectors take an up loop down.
-use Rattle.std.specs.Prelude.{ℕ, ◌+◌, ◌*◌, ◌≤◌, ◌<◌, Bool, List, [], ◌∷◌, length, if◌then◌else◌}
+use Rattle.std.specs.Prelude.{ℕ, ◌+◌, ◌*◌, Bool, List, [], ◌∷◌, if◌then◌else◌}
 use Rattle.sil_model.specs.State.{is_up_of}
-use Rattle.sil_model.specs.LoopValue.{LoopValue, IsValid, groups_of}
-use Rattle.sil_model.specs.Counts.{IsCounts}
+use Rattle.sil_model.specs.LoopValue.{groups_of}
 use Rattle.sil_model.specs.declared.parts.Subsystem.{Subsystem}
 use Rattle.lumped_laws.specs.StateOfCounts.{state_of_counts}
 use Rattle.common_cause.specs.declared.event.Rate.{Rate}
@@ -16,17 +15,7 @@ abbrev pub failure_units_of : Rate → ℕ
 failure_units_of (Fails n) = n
 failure_units_of (Repairs n) = 0
 
--- a count vector of a valid loop
-pub record IsCountsOf (l : LoopValue) (cs : List ℕ) : Type 0 where
-  pub valid : IsValid l
-  pub counts : IsCounts (groups_of l.subsystems) cs
-
 module _ (us : List Subsystem) where
-  -- the groups of an event are groups of the loop
-  pub record IsInLoop (e : LumpEvent) : Type 0 where
-    pub subsystem : e.subsystem < length us
-    pub groups : e.group + (if e.whole then spans us e.subsystem else 1) ≤ length (groups_of us)
-
   -- whether the loop is up in the full states with these counts
   abbrev pub is_up_by : List ℕ → Bool
   is_up_by cs = is_up_of us (state_of_counts (groups_of us) cs)

@@ -9,7 +9,6 @@
 ghost use Rattle.sil_model.specs.LoopValue.{LoopValue};
 ghost use Rattle.entry_rates.specs.Greatest.{EntryLaw};
 
-mod event;
 mod rates;
 
 pub use rates::{entry_rates, failure_rate, up_states};

@@ -10,14 +10,12 @@ ghost use Rattle.sil_model.specs.Budget.{alone_units_of, together_units_of, fail
 ghost use Rattle.lumped_laws.specs.StateOfCounts.{state_numbered};
 ghost use Rattle.lumped_laws.specs.PayList.{payoff_list};
 ghost use Rattle.common_cause.specs.LumpEvents.{lump_events_of};
-ghost use Rattle.common_cause.specs.LumpedRates.{spans};
-ghost use Rattle.entry_rates.specs.Entered.{IsCountsOf, IsInLoop, is_up_by, rate_down, rates_down, entered_from};
+ghost use Rattle.common_cause.specs.InLoop.{IsCountsOf, IsInLoop};
+ghost use Rattle.entry_rates.specs.Entered.{is_up_by, rate_down, rates_down, entered_from};
 
-use crate::event::{move_event, times_of};
-use channel_counts::{STATES, groups_in};
 use common_cause::{LumpEvent, Rate};
 use lumping::Space;
-use sil_model::{Loop, Subsystem};
+use sil_model::{CHANNEL_STATES, Loop, Subsystem};
 use std::alloc::{AllocError, Global};
 use voting::is_up;
 
@@ -53,7 +51,7 @@ pub fn up_states(alloc: Global, l: &Loop, space: &Space) -> Result<Vec<bool>, Al
     ensures length { IfOk result (λ v. length v.items ≡ states_of l.now.subsystems) }
     ensures up { IfOk result (λ v. (i : ℕ) (d : Bool) → i < states_of l.now.subsystems → slice_index_or v.items i d ≡ is_up_of l.now.subsystems (state_numbered l.now.subsystems i)) }
 {
-    let mut counts = vec![in alloc; 0u8; STATES * l.groups()]?;
+    let mut counts = vec![in alloc; 0u8; CHANNEL_STATES * l.groups()]?;
     let mut up = Vec::with_capacity(alloc, space.size())?;
     for i in 0..space.size() {
         space.counts_at(i, counts.as_mut_slice());
@@ -79,8 +77,8 @@ pub fn entry_rates(
 {
     // The values of a loop are in their ranges.
     let _ = l.mission();
-    let mut counts = vec![in alloc; 0u8; STATES * l.groups()]?;
-    let mut after = vec![in alloc; 0u8; STATES * l.groups()]?;
+    let mut counts = vec![in alloc; 0u8; CHANNEL_STATES * l.groups()]?;
+    let mut after = vec![in alloc; 0u8; CHANNEL_STATES * l.groups()]?;
     let mut rates = Vec::with_capacity(alloc, space.size())?;
     for i in 0..space.size() {
         space.counts_at(i, counts.as_mut_slice());
@@ -131,23 +129,15 @@ fn rate_down(l: &Loop, event: &LumpEvent, counts: &[u8], after: &mut [u8]) -> u1
         // A repair never takes a loop down.
         Rate::Repairs(_) => return 0,
     };
-    let groups = groups_of_event(l, event);
-    let times = times_of(counts, event, groups);
+    let times = event.times(l, counts);
     if times == 0 {
         return 0;
     }
     after.copy_from_slice(counts);
-    move_event(after, event, groups);
-    if is_up(l, after) { 0 } else { times * units }
-}
-
-/// How many groups the subsystem of an event has.
-fn groups_of_event(l: &Loop, event: &LumpEvent) -> usize
-    requires { event.now.subsystem < length l.now.subsystems }
-    ensures groups { spans l.now.subsystems event.now.subsystem ≡ result }
-    ensures few { result ≤ 48 }
-{
-    // The values of a loop are in their ranges, so that a subsystem has few channels.
-    let _ = l.len();
-    groups_in(l.subsystem(usize::from(event.subsystem)))
+    event.happen(l, after);
+    if is_up(l, after) {
+        0
+    } else {
+        u128::from(times) * units
+    }
 }

@@ -12,8 +12,8 @@ use Rattle.model_laws.proofs.Beats.{beat-linear}
 use Rattle.exponential_laws.specs.Exponential.{exponential_of, both, Commute}
 
 -- equal values are equal at each place
-pub same-at : {f g : Values ℕ} → f ≡ g → (i : ℕ) → f i ≡ g i
-same-at e i = ap (λ (h : Values ℕ). h i) e
+pub same-at : {I : Type 0} {f g : Values I} → f ≡ g → (i : I) → f i ≡ g i
+same-at {I} e i = ap (λ (h : Values I). h i) e
 
 -- a linear step goes into a sum
 module _ (T : Values ℕ → Values ℕ) (t : IsLinear T) where
@@ -31,7 +31,7 @@ module _ (T : Values ℕ → Values ℕ) (t : IsLinear T) where
       ∙ fun_ext (λ i. ap (total_below n) (fun_ext (λ k. same-at (t.scales (c k) (g k)) i)))
 
 -- what two linear steps give together is linear
-pub both-linear : (X Y : Values ℕ → Values ℕ) → IsLinear X → IsLinear Y → IsLinear (both X Y)
+pub both-linear : {I : Type 0} (X Y : Values I → Values I) → IsLinear X → IsLinear Y → IsLinear (both X Y)
 both-linear X Y x y = record {
   adds = λ f g. fun_ext (λ i. cc (same-at (x.adds f g) i, same-at (y.adds f g) i, add_swap (X f i) (X g i) (Y f i) (Y g i)));
   scales = λ c f. fun_ext (λ i. cc (same-at (x.scales c f) i, same-at (y.scales c f) i, mul-add c (X f i) (Y f i)));

@@ -9,7 +9,7 @@ unfoldable pub exponential_of : (Values ℕ → Values ℕ) → ℕ → Values �
 exponential_of T n f i = total_below (suc n) (λ k. ratio 1 (factorial k) *ℚ times T k f i)
 
 -- what two steps give together
-abbrev pub both : (Values ℕ → Values ℕ) → (Values ℕ → Values ℕ) → Values ℕ → Values ℕ
+abbrev pub both : {I : Type 0} → (Values I → Values I) → (Values I → Values I) → Values I → Values I
 both X Y f i = X f i +ℚ Y f i
 
 -- it does not matter which of two steps comes first

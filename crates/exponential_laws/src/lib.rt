@@ -1,7 +1,7 @@
 //! Laws of the exponential series of steps that commute, for contracts and proofs alone: no code runs here.
 //!
-//! By the binomial theorem the terms of degree k of both series together are the term of degree k of the series of the
-//! sum. So cut-off series lie below each other, coefficient by coefficient.
+//! By the binomial theorem (`proofs/Binomial`) the terms of degree k of both series together are the term of degree k of
+//! the series of the sum. So cut-off series lie below each other, coefficient by coefficient.
 #![tactic(auto)]
 
 ghost use Rattle.std.specs.Prelude.{ℕ};

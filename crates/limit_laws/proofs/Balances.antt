@@ -12,8 +12,9 @@ use Rattle.sil_model.specs.Series.{Values, times, factorial, series_of, beat_of,
 use Rattle.model_laws.specs.Polynomial.{IsLinear}
 use Rattle.model_laws.proofs.Operators.{step-linear, summed}
 use Rattle.model_laws.proofs.Series.{factorial_pos}
+use Rattle.exponential_laws.proofs.Binomial.{term}
 use Rattle.limit_laws.specs.Bounds.{power_remainder_of}
-use Rattle.limit_laws.proofs.Tails.{term, factorial-suc, one_below_series}
+use Rattle.limit_laws.proofs.Tails.{factorial-suc, one_below_series}
 use Rattle.limit_laws.proofs.Quotients.{some_from_one, quotient-mul}
 use Rattle.limit_laws.proofs.Orders.{tails_as_sums}
 use Rattle.limit_laws.proofs.Steps.{same_from_sum}

@@ -12,8 +12,9 @@ use Rattle.sil_model.specs.Events.{Event, flow_of, leaving_rate, step_of}
 use Rattle.sil_model.specs.Series.{Values, times, series_of, beat_of, mean_of}
 use Rattle.model_laws.specs.Polynomial.{IsLinear}
 use Rattle.model_laws.proofs.Operators.{step-linear, step-constant, flow-scale, flow-le, flow-add}
+use Rattle.exponential_laws.proofs.Binomial.{term, next_term}
 use Rattle.limit_laws.specs.Near.{IsNear}
-use Rattle.limit_laws.proofs.Tails.{term, next_term, one_below_series}
+use Rattle.limit_laws.proofs.Tails.{one_below_series}
 use Rattle.limit_laws.proofs.Quotients.{some_from_one}
 use Rattle.limit_laws.proofs.Orders.{tails_as_sums}
 use Rattle.limit_laws.proofs.Nearness.{near_itself, near_turned, near_wider, near_chained, near_summed, near_scaled}

@@ -12,13 +12,13 @@ use Rattle.model_laws.specs.Polynomial.{IsLinear}
 use Rattle.model_laws.proofs.Operators.{times-linear, summed}
 use Rattle.model_laws.proofs.Series.{factorial_pos}
 use Rattle.model_laws.proofs.Rates.{over-add}
+use Rattle.exponential_laws.proofs.Sums.{diagonal, triangle, box, triangle-le-box, box-le-triangle}
+use Rattle.exponential_laws.proofs.Binomial.{term, binomial}
 use Rattle.limit_laws.specs.Near.{IsNear}
 use Rattle.limit_laws.specs.Bounds.{power_remainder_of}
-use Rattle.limit_laws.proofs.Tails.{term, later, sum-later, factorial-suc, one_below_series}
+use Rattle.limit_laws.proofs.Tails.{later, sum-later, factorial-suc, one_below_series}
 use Rattle.limit_laws.proofs.Quotients.{some_from_one}
 use Rattle.limit_laws.proofs.Nearness.{near_scaled, near_wider}
-use Rattle.limit_laws.proofs.Triangles.{diagonal, triangle, rectangle, triangle-le-rectangle, rectangle-le-triangle}
-use Rattle.limit_laws.proofs.Powers.{power-both}
 
 -- the terms of the series of r^k/k!, and their sum after an order
 module _ (r : ℕ) where
@@ -76,7 +76,7 @@ module _ {I : Type 0} (b : Values I → Values I) (f : Values I) (n : ℕ) where
 
   -- a beat of a after a beat of b, as a sum over a square
   pub beat-beat : (a : Values I → Values I) (p : IsLinear a) (s : I)
-      → beat_of a n (beat_of b n f) s ≡ (D *ℚ D) *ℚ rectangle (suc n) (suc n) (λ i j. (term i *ℚ term j) *ℚ times a i (times b j f) s)
+      → beat_of a n (beat_of b n f) s ≡ (D *ℚ D) *ℚ box (suc n) (suc n) (λ i j. (term i *ℚ term j) *ℚ times a i (times b j f) s)
   unfolding beat_of
   beat-beat a p s =
       let row : (i : ℕ) → term i *ℚ times a i (λ s. total_below (suc n) (λ j. term j *ℚ times b j f s) *ℚ D) s
@@ -130,11 +130,11 @@ module _ {I : Type 0} (a b c : Values I → Values I) (p : IsLinear a) (q : IsLi
 
   of_sum : (m : ℕ) → diagonal m Y ≡ diagonal m X
   of_sum m =
-      sym (power-both c (λ g. g) cl same-linear (λ g. refl) f m s)
+      sym (binomial c (λ g. g) cl same-linear (λ g. refl) m f s)
       ∙ ap (λ (T : Values I → Values I). term m *ℚ times T m f s) (fun_ext (λ g. fun_ext (λ s. sym (sum g s))))
-      ∙ power-both a b p q commute f m s
+      ∙ binomial a b p q (λ g. sym (commute g)) m f s
 
-  same_triangles : (m : ℕ) → triangle m Y ≡ triangle m X
+  same_triangles : (m : ℕ) → triangle (suc m) Y ≡ triangle (suc m) X
   same_triangles m = ap (total_below (suc m)) (fun_ext of_sum)
 
   -- the powers of the two together
@@ -148,31 +148,37 @@ module _ {I : Type 0} (a b c : Values I → Values I) (p : IsLinear a) (q : IsLi
       (grows y s))
 
   one_diagonal : (m : ℕ) → diagonal m X ≤ℚ w s *ℚ raised r m
-  one_diagonal m = le_trans _ _ _ (le_of_same _ _ (sym (power-both a b p q commute f m s)))
+  one_diagonal m = le_trans _ _ _ (le_of_same _ _ (sym (binomial a b p q (λ g. sym (commute g)) m f s)))
       (le_trans _ _ _ (mul-le-left (term m) _ _ (multiplied m s)) (le_of_same _ _ (turned (r ^ m) (factorial m) (w s))))
     where
       turned : (x y : ℕ) (B : Fraction) → ratio 1 y *ℚ (whole x *ℚ B) ≡ B *ℚ ratio x y
       turned x y B = sym (mul_assoc (ratio 1 y) (whole x) B) ∙ mul_comm _ B
           ∙ ap (λ z. B *ℚ z) (mul_comm (ratio 1 y) (whole x) ∙ ap (λ z. whole x *ℚ z) (one-mul (inverse (whole y))))
 
-  larger : triangle (n + n) X ≤ℚ triangle n X +ℚ w s *ℚ power_remainder_of r n
+  larger : triangle (suc (n + n)) X ≤ℚ triangle (suc n) X +ℚ w s *ℚ power_remainder_of r n
   larger = rw (sum-later (λ m. diagonal m X) n n) (add-le-add _ _ _ _ (le_refl _)
       (le_trans _ _ _ (below-le n _ (λ i. w s *ℚ raised r (suc (n + i))) (λ i h. one_diagonal (suc (n + i))))
       (le_trans _ _ _ (le_of_same _ _ (sym (mul-below n (w s) (λ i. raised r (suc (n + i)))))) (mul-le-left (w s) _ _ (raised_small r n n enough)))))
 
-  squares_near : IsNear (w s *ℚ power_remainder_of r n) (rectangle (suc n) (suc n) Y) (rectangle (suc n) (suc n) X)
+  box_in_triangle : (F : ℕ → ℕ → Fraction) → box (suc n) (suc n) F ≤ℚ triangle (suc (n + n)) F
+  box_in_triangle F = let e : suc n + n ≡ suc (n + n) = omega arith in rw e at (box-le-triangle (suc n) n F)
+
+  triangle_in_box : (F : ℕ → ℕ → Fraction) → triangle (suc n) F ≤ℚ box (suc n) (suc n) F
+  triangle_in_box F = rw nat-add-zero at (triangle-le-box (suc n) 0 F)
+
+  squares_near : IsNear (w s *ℚ power_remainder_of r n) (box (suc n) (suc n) Y) (box (suc n) (suc n) X)
   squares_near = record {
-    above = le_trans _ _ _ (rectangle-le-triangle n n Y)
-        (rw (same_triangles (n + n)) (le_trans _ _ _ larger (add-le-add _ _ _ _ (triangle-le-rectangle n n X (omega arith)) (le_refl _))));
-    below = le_trans _ _ _ (rectangle-le-triangle n n X)
-        (le_trans _ _ _ larger (rw (← same_triangles n) (add-le-add _ _ _ _ (triangle-le-rectangle n n Y (omega arith)) (le_refl _))));
+    above = le_trans _ _ _ (box_in_triangle Y)
+        (rw (same_triangles (n + n)) (le_trans _ _ _ larger (add-le-add _ _ _ _ (triangle_in_box X) (le_refl _))));
+    below = le_trans _ _ _ (box_in_triangle X)
+        (le_trans _ _ _ larger (rw (← same_triangles n) (add-le-add _ _ _ _ (triangle_in_box Y) (le_refl _))));
   }
 
   pub composed_near : IsNear (w s *ℚ power_remainder_of r n) (beat_of c n f s) (beat_of a n (beat_of b n f) s)
   composed_near =
       let d : Fraction = inverse (series_of n) *ℚ inverse (series_of n) in
-      let one : beat_of c n f s ≡ d *ℚ rectangle (suc n) (suc n) Y =
+      let one : beat_of c n f s ≡ d *ℚ box (suc n) (suc n) Y =
       ap (λ (h : Values I). beat_of c n h s) (sym (same-beat n f)) ∙ beat-beat (λ g. g) f n c cl s in
-      let other : beat_of a n (beat_of b n f) s ≡ d *ℚ rectangle (suc n) (suc n) X = beat-beat b f n a p s in
+      let other : beat_of a n (beat_of b n f) s ≡ d *ℚ box (suc n) (suc n) X = beat-beat b f n a p s in
       rw (one, other) (near_wider _ _ _ _ (near_scaled d _ _ _ squares_near)
       (le_trans _ _ _ (mul-le-right d (whole 1) _ (squared_small b f n)) (le_of_same _ _ (one-mul _))))

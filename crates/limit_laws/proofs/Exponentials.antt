@@ -7,11 +7,12 @@ use Rattle.sil_fraction.proofs.Sums.{add-le-add, le-add_right}
 use Rattle.sil_model.specs.State.{FullState}
 use Rattle.sil_model.specs.Series.{Values, times, factorial, series_of, beat_of, mean_of}
 use Rattle.model_laws.proofs.Series.{factorial_pos}
+use Rattle.exponential_laws.proofs.Binomial.{term}
 use Rattle.limit_laws.specs.Near.{IsNear}
 use Rattle.limit_laws.specs.Real.{Real, Approaches}
 use Rattle.limit_laws.specs.Bounds.{remainder_of}
 use Rattle.limit_laws.specs.Laws.{IsMarkov, exponential_of}
-use Rattle.limit_laws.proofs.Tails.{term, later, sum-later, series-later, later_small, one_below_series}
+use Rattle.limit_laws.proofs.Tails.{later, sum-later, series-later, later_small, one_below_series}
 use Rattle.limit_laws.proofs.Quotients.{some_from_one, quotient-mul}
 use Rattle.limit_laws.proofs.Orders.{later_smaller, times_small, beats_near, means_near}
 use Rattle.limit_laws.proofs.Limits.{limit, approaches_limit}

@@ -8,8 +8,6 @@ pub mod Missions
 pub mod Limits
 pub mod Figures
 pub mod Exponentials
-pub mod Triangles
-pub mod Powers
 pub mod Composed
 pub mod Steps
 pub mod Beginnings

@@ -15,7 +15,7 @@ use Rattle.sil_model.specs.Figures.{no_phase}
 use Rattle.sil_model.specs.LoopValue.{LoopValue}
 use Rattle.sil_model.specs.declared.parts.Subsystem.{Subsystem}
 use Rattle.model_laws.specs.Hours.{hours_of}
-use Rattle.test_calendar.proofs.PhaseList.{length-phases}
+use Rattle.schedule_laws.proofs.PhaseList.{length-phases}
 use Rattle.schedule_laws.proofs.ScheduleHours.{hours_of_mission, hours_of_phase}
 use Rattle.limit_laws.specs.Bounds.{beat_count, most_of}
 

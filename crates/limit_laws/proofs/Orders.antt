@@ -8,9 +8,10 @@ use Rattle.sil_model.specs.Series.{Values, times, series_of, tail_of, beat_of, m
 use Rattle.model_laws.specs.Polynomial.{IsLinear, combined}
 use Rattle.model_laws.proofs.Operators.{times-linear, times-constant}
 use Rattle.model_laws.proofs.Beats.{tail_sum, tails_combined}
+use Rattle.exponential_laws.proofs.Binomial.{term, next_term}
 use Rattle.limit_laws.specs.Near.{IsNear}
 use Rattle.limit_laws.specs.Bounds.{remainder_of}
-use Rattle.limit_laws.proofs.Tails.{term, later, sum-later, series-later, later_small, one_below_series, next_term}
+use Rattle.limit_laws.proofs.Tails.{later, sum-later, series-later, later_small, one_below_series}
 use Rattle.limit_laws.proofs.Quotients.{some_from_one, undone, quotient-mul, near_by_divisors}
 use Rattle.limit_laws.proofs.Nearness.{near_wider}
 

@@ -13,9 +13,10 @@ use Rattle.model_laws.specs.Polynomial.{IsLinear}
 use Rattle.model_laws.proofs.Operators.{step-linear, step-constant}
 use Rattle.model_laws.proofs.Beats.{beat-linear, beat-constant, mean-constant}
 use Rattle.model_laws.proofs.Rates.{over-add}
+use Rattle.exponential_laws.proofs.Binomial.{term}
 use Rattle.limit_laws.specs.Near.{IsNear}
 use Rattle.limit_laws.specs.Bounds.{power_remainder_of}
-use Rattle.limit_laws.proofs.Tails.{term, one_below_series}
+use Rattle.limit_laws.proofs.Tails.{one_below_series}
 use Rattle.limit_laws.proofs.Quotients.{some_from_one}
 use Rattle.limit_laws.proofs.Nearness.{near_turned, near_chained, near_summed}
 use Rattle.limit_laws.proofs.Most.{mean-scales, mean-grows}

@@ -1,18 +1,15 @@
 -- The terms of the exponential series above an order, and their sum.
 use Rattle.std.proofs.Common.{◌≡◌, ℕ, zero, suc, ◌+◌, ◌*◌, ◌<◌, ◌≤◌, refl, sym, ap, ◌∙◌, arith}
 use Rattle.std.proofs.Math.Nat.{add-zero as nat-add-zero, add-suc as nat-add-suc, mul-le-mul_right, mul-pos}
-use Rattle.sil_fraction.specs.Fraction.{Fraction, ◌+ℚ◌, ◌*ℚ◌, ◌≤ℚ◌, whole, ratio}
+use Rattle.sil_fraction.specs.Fraction.{Fraction, ◌+ℚ◌, ◌≤ℚ◌, whole, ratio}
 use Rattle.sil_fraction.specs.Sum.{total_below}
-use Rattle.sil_fraction.proofs.Laws.{add_assoc, zero-add, one-mul, le_refl, le_trans, zero-le, le_of_same, ratio-le-ratio, ratio-mul, ratio-same, whole-ratio}
+use Rattle.sil_fraction.proofs.Laws.{add_assoc, zero-add, one-mul, le_refl, le_trans, zero-le, le_of_same, ratio-le-ratio}
 use Rattle.sil_fraction.proofs.Sums.{add-zero, add-le-add, le-add_right, le-below-more, inverse-one}
 use Rattle.sil_model.specs.Series.{factorial, series_of}
 use Rattle.model_laws.proofs.Series.{factorial_pos}
 use Rattle.model_laws.proofs.Rates.{over-add}
+use Rattle.exponential_laws.proofs.Binomial.{term}
 use Rattle.limit_laws.specs.Bounds.{remainder_of}
-
--- the term of the series at k
-abbrev pub term : ℕ → Fraction
-term k = ratio 1 (factorial k)
 
 -- the sum of j values after the one at n
 abbrev pub later : (ℕ → Fraction) → ℕ → ℕ → Fraction
@@ -70,8 +67,3 @@ remainder-falls n =
     rw (factorial-suc (suc n))
     (ratio-le-ratio 2 (suc (suc n) * factorial (suc n)) 2 (factorial (suc n)) (mul-pos (omega arith) F) F
     (omega (arith, mul-le-mul_right (factorial (suc n)) one)))
-
--- n + 1 times 1/(n + 1)!
-pub next_term : (n : ℕ) → whole (suc n) *ℚ term (suc n) ≡ term n
-next_term n = rw (factorial-suc n, whole-ratio (suc n), ratio-mul (suc n) 1 1 (suc n * factorial n) (omega arith) (mul-pos (omega arith) (factorial_pos n)))
-    (ratio-same _ _ _ _ (mul-pos (omega arith) (mul-pos (omega arith) (factorial_pos n))) (factorial_pos n) (omega arith))

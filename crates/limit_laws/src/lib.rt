@@ -14,7 +14,7 @@
 //! - `proofs/Orders`: a beat and its mean at two orders. `proofs/Exponentials`: the exponential series of a step.
 //! - `proofs/Most`: the most that a schedule pays. `proofs/Schedules`: what it pays at two orders.
 //! - `proofs/Missions`: the beats of the schedules of a loop, and the most that they pay.
-//! - `proofs/Triangles`, `Powers`, `Composed`, `Steps`: two beats are one beat of their hours together.
+//! - `proofs/Composed`, `Steps`: two beats are one beat of their hours together.
 //!   `proofs/Beginnings`, `Balances`: a short beat against one step, and what a beat changes by its mean.
 //! - `proofs/SplitBeats`, `FinerSchedules`: the same of beats with their pay, and of schedules.
 //! - `proofs/Limits`: real numbers and the sequences that approach them. `proofs/Figures`: the figures.

@@ -15,7 +15,7 @@ use Rattle.sil_model.specs.declared.parts.Vote.{Vote}
 use Rattle.test_calendar.specs.Counts.{channels_count}
 use Rattle.test_calendar.proofs.ChannelCounts.{tests_in, channel_tests_as}
 use Rattle.test_calendar.proofs.Rates.{rate_in}
-use Rattle.test_calendar.proofs.PhasesOfLoop.{phases_of_last, phases_of_fill}
+use Rattle.schedule_laws.proofs.PhasesOfLoop.{phases_of_last, phases_of_fill}
 use Rattle.loop_gen.specs.Drawn.{state_after, draw, sensors_vote, plan_of, subsystem_of, repair_of, sensors_of, logic_of, valves_of, drawn_of}
 use Rattle.loop_gen.specs.Drawn.{IsSmall, IsSuitable}
 use Rattle.loop_gen.proofs.Drawn.{draw-below, drawn_valid}

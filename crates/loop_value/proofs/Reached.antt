@@ -4,7 +4,7 @@ use Rattle.std.specs.Prelude.{map, All}
 use Rattle.std.proofs.Math.Nat.{mul-le-mul_right}
 use Rattle.std.proofs.lemmas.List.{get_or-map}
 use Rattle.std.proofs.lemmas.List.Sums.{get_or-le-sum_by}
-use Rattle.sil_fraction.specs.Fraction.{◌+ℚ◌, ◌*ℚ◌, ◌-ℚ◌, ◌≤ℚ◌, whole, ratio}
+use Rattle.sil_fraction.specs.Fraction.{◌-ℚ◌, ◌≤ℚ◌, whole}
 use Rattle.sil_model.specs.Series.{Values}
 use Rattle.sil_model.specs.Budget.{beat_loss_of, test_loss_of, group_tests_in, group_tests_of}
 use Rattle.sil_model.specs.Calendar.{Phase, phases_of, test_hours_of, tests_at, beats_of}
@@ -13,10 +13,9 @@ use Rattle.sil_model.specs.LoopValue.{LoopValue, IsValid}
 use Rattle.sil_model.specs.Sizes.{states_of, all_beats_of}
 use Rattle.test_calendar.specs.GroupTests.{group_tests_at, spread_over}
 use Rattle.test_calendar.specs.declared.groups.GroupTest.{GroupTest}
-use Rattle.test_calendar.proofs.PhasesOfLoop.{length-phases_of}
-use Rattle.lumped_laws.specs.ValueLists.{phase_list, phase_mean_list, test_list, passing}
+use Rattle.schedule_laws.proofs.PhasesOfLoop.{length-phases_of}
+use Rattle.lumped_laws.specs.ValueLists.{test_list, passing}
 use Rattle.vector_laws.specs.Vectors.{weigh}
-use Rattle.product_chain.specs.Kept.{ChainValue}
 use Rattle.test_matrix.specs.HourTests.{AreTestsOf, Exist}
 use Rattle.test_matrix.proofs.HourTests.{after_phase}
 use Rattle.mission_laws.specs.Losses.{hours_until, beats_until, group_tests_until, LosesInPhase, LosesAtTests, HasLostInAll}
@@ -24,64 +23,14 @@ use Rattle.mission_laws.specs.Missions.{HasCounted}
 use Rattle.mission_laws.specs.UnderWay.{PassesPhase, PassesTests, IsUnderWay}
 use Rattle.mission_laws.proofs.Losses.{loses_next, loses_last, group_tests-more, group_tests-all, beats-more, beats-all}
 use Rattle.mission_laws.proofs.UnderWay.{next_phase, last_phase}
-use Rattle.phase_laws.specs.Laws.{PassesBeats}
-use Rattle.phase_laws.proofs.Arrived.{arrival_laws}
+use Rattle.mission_laws.proofs.Arrived.{arrival_laws}
 use Rattle.loop_value.specs.Mission.{HasReached, greatest_of}
 use Rattle.loop_value.proofs.GroupTestCounts.{group_tests-count}
-use Rattle.loop_value.proofs.Rooms.{hours-within, beats-within}
+use Rattle.loop_value.proofs.Rooms.{hours-within}
 
--- a phase as the chain of the loop passes it
-module _ (l : LoopValue) (c : ChainValue) (h order order' hours beats : ℕ) (v v' dwell dwell' : List ℕ)
-    (timed : c ≡ record { of = l; hours = h; beats = beats_of l.subsystems h }) (is_hours : h ≡ hours) (is_order : order' ≡ order)
-    (is_beats : beats ≡ beats_of l.subsystems hours) where
-  chain : c ≡ record { of = l; hours = hours; beats = beats_of l.subsystems hours }
-  chain = rw is_hours at timed
-
-  pub passes : ((n : ℕ) → order' ≤ n → (f : Values ℕ) → weigh v' f ≤ℚ weigh v (phase_list c.of.subsystems n (ratio hours beats) beats f))
-      → ((n : ℕ) → order' ≤ n → (f : Values ℕ) → weigh dwell' f ≤ℚ weigh dwell f +ℚ whole hours *ℚ weigh v (phase_mean_list c.of.subsystems n (ratio hours beats) beats f))
-      → PassesPhase l.subsystems order hours (beats_of l.subsystems hours) v v' dwell dwell'
-  passes ends stays = record {
-    ends = λ n o f. rw (chain, is_beats) at (ends n (rw is_order o) f);
-    stays = λ n o f. rw (chain, is_beats) at (stays n (rw is_order o) f);
-  }
-
-  pub loses : sum v' ≤ sum v → sum v ≤ sum v' + beats * beat_loss_of c.of.subsystems order'
-      → sum dwell' ≤ sum dwell + hours * sum v
-      → sum dwell + hours * sum v ≤ sum dwell' + hours * (beats * beat_loss_of c.of.subsystems order') + states_of c.of.subsystems
-      → LosesInPhase (beats_of l.subsystems hours * beat_loss_of l.subsystems order) hours (states_of l.subsystems) v v' dwell dwell'
-  loses kept lack dwell_kept dwell_lack = record {
-    mass = kept;
-    lack = rw (chain, is_beats, is_order) at lack;
-    dwell_mass = dwell_kept;
-    dwell_lack = rw (chain, is_beats, is_order) at dwell_lack;
-  }
-
-  pub beaten : (mean : List ℕ) → ((n : ℕ) → order' ≤ n → (f : Values ℕ) → weigh mean f ≤ℚ weigh v (phase_mean_list c.of.subsystems n (ratio hours beats) beats f))
-      → ((n : ℕ) → order' ≤ n → (f : Values ℕ) → weigh v' f ≤ℚ weigh v (phase_list c.of.subsystems n (ratio hours beats) beats f))
-      → sum mean ≤ sum v → sum v' ≤ sum v
-      → sum v ≤ sum mean + beats * beat_loss_of c.of.subsystems order' + states_of c.of.subsystems
-      → sum v ≤ sum v' + beats * beat_loss_of c.of.subsystems order'
-      → PassesBeats l.subsystems order hours v mean v'
-  beaten mean means ends mean_kept kept mean_lack lack = record {
-    means = λ n o f. rw (chain, is_beats) at (means n (rw is_order o) f);
-    ends = λ n o f. rw (chain, is_beats) at (ends n (rw is_order o) f);
-    mean_mass = mean_kept;
-    end_mass = kept;
-    mean_lack = rw (chain, is_beats, is_order) at mean_lack;
-    end_lack = rw (chain, is_beats, is_order) at lack;
-  }
-
--- the hours of a phase of the plan
-pub hours-at : (ps : List Phase) (l : LoopValue) (p hours : ℕ) → hours ≡ (get_or ps p no_phase).hours → ps ≡ phases_of l → hours ≡ (get_or (phases_of l) p no_phase).hours
-hours-at ps l p hours e same = rw same at e
-
+-- where a phase of the plan starts
 pub start-at : (ps : List Phase) (l : LoopValue) (p start : ℕ) → start ≡ (get_or ps p no_phase).start → ps ≡ phases_of l → start ≡ (get_or (phases_of l) p no_phase).start
 start-at ps l p start e same = rw same at e
-
--- its beats are few
-pub few_beats : (l : LoopValue) (p hours most : ℕ) → p < length (phases_of l) → hours ≡ (get_or (phases_of l) p no_phase).hours → all_beats_of l ≤ most
-    → beats_of l.subsystems hours ≤ most
-few_beats l p hours most within e few = rw e (omega (arith, beats-within l p no_phase within, few))
 
 -- the dwell has room for the hours of a phase
 pub roomy : (l : LoopValue) → IsValid l → (p hours : ℕ) (d : Phase) → p < length (phases_of l) → hours ≡ (get_or (phases_of l) p d).hours

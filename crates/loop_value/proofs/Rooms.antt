@@ -1,11 +1,10 @@
--- The hours and beats of a phase are within those of the mission, and so is the dwell before it.
+-- The hours of a phase, and those before it, are within those of the mission.
 use Rattle.std.proofs.Common.{ℕ, zero, suc, ◌+◌, ◌<◌, ◌≤◌, List, [], ◌∷◌, length, get_or, take, arith}
 use Rattle.std.specs.Prelude.{sum_by}
-use Rattle.std.proofs.lemmas.List.Sums.{sum_by-cons, get_or-le-sum_by}
-use Rattle.sil_model.specs.Calendar.{Phase, phases_of, beats_of}
+use Rattle.std.proofs.lemmas.List.Sums.{sum_by-cons}
+use Rattle.sil_model.specs.Calendar.{Phase, phases_of}
 use Rattle.sil_model.specs.LoopValue.{LoopValue}
-use Rattle.sil_model.specs.Sizes.{all_beats_of}
-use Rattle.test_calendar.proofs.PhasesOfLoop.{phases_of_fill}
+use Rattle.schedule_laws.proofs.PhasesOfLoop.{phases_of_fill}
 use Rattle.mission_laws.specs.Losses.{hours_until}
 
 -- a sum up to a place, and what stands there
@@ -18,7 +17,3 @@ until-and-at f (x ∷ ps) (suc p) d h =
 module _ (l : LoopValue) (p : ℕ) (d : Phase) (within : p < length (phases_of l)) where
   pub hours-within : hours_until l p + (get_or (phases_of l) p d).hours ≤ l.mission
   hours-within = omega (arith, until-and-at (λ (q : Phase). q.hours) (phases_of l) p d within, phases_of_fill l)
-
-  pub beats-within : beats_of l.subsystems (get_or (phases_of l) p d).hours ≤ all_beats_of l
-  unfolding all_beats_of
-  beats-within = get_or-le-sum_by (λ (q : Phase). beats_of l.subsystems q.hours) (phases_of l) p d within

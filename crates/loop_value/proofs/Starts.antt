@@ -10,7 +10,7 @@ use Rattle.vector_laws.proofs.Masses.{sum-none, sum-more}
 use Rattle.vector_laws.proofs.Weighing.{weigh-none, weigh-more}
 use Rattle.mission_laws.proofs.Losses.{none_lost}
 use Rattle.mission_laws.proofs.UnderWay.{at_start}
-use Rattle.phase_laws.proofs.Arrived.{arrival_laws}
+use Rattle.mission_laws.proofs.Arrived.{arrival_laws}
 use Rattle.loop_value.specs.Mission.{HasReached, greatest_of}
 
 module _ (size : ℕ) (some : 0 < size) where

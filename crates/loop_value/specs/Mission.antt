@@ -1,9 +1,9 @@
 -- What the computation of a loop keeps from phase to phase.
-use Rattle.std.specs.Prelude.{◌≡◌, ℕ, ◌+◌, ◌-◌, ◌*◌, ◌^◌, ◌≤◌, ◌<◌, Bool, List, Option, Some, None, length, map, slice_index, slice_index_or}
+use Rattle.std.specs.Prelude.{◌≡◌, ℕ, ◌+◌, ◌-◌, ◌*◌, ◌^◌, ◌≤◌, ◌<◌, Bool, List, length, map, slice_index, slice_index_or}
 use Rattle.sil_fraction.specs.Fraction.{Fraction, ratio}
 use Rattle.sil_model.specs.Budget.{failure_rate_of, group_tests_in}
 use Rattle.sil_model.specs.Calendar.{beats_of, phases_of, test_hours_of}
-use Rattle.sil_model.specs.LoopValue.{LoopValue, IsValid, IsWithin}
+use Rattle.sil_model.specs.LoopValue.{LoopValue, IsValid}
 use Rattle.sil_model.specs.Sizes.{states_of}
 use Rattle.sil_model.specs.Figures.{no_phase}
 use Rattle.sil_model.specs.declared.parts.Subsystem.{Subsystem}
@@ -16,37 +16,9 @@ use Rattle.lumped_laws.specs.StateOfCounts.{state_numbered}
 use Rattle.uniformise.specs.Beat.{beat_products}
 use Rattle.mission_laws.specs.Losses.{HasLost}
 use Rattle.mission_laws.specs.UnderWay.{IsUnderWay}
-use Rattle.phase_laws.specs.Arrived.{HasArrived}
+use Rattle.mission_laws.specs.Arrived.{HasArrived}
 use Rattle.phase_powers.specs.Products.{powered_products}
-use Rattle.phase_powers.specs.Kept.{PowersValue, IsOfNoOther}
-use Rattle.loop_value.specs.declared.mission.Machine.{Machine}
-use Rattle.loop_value.specs.declared.separate.Separate.{Separate}
 use Rattle.loop_value.specs.declared.preparing.Prepared.{Prepared}
-
--- powers of the loop, where it has few enough states
-abbrev pub HavePowers : LoopValue → Option PowersValue → Type 0
-HavePowers l None = 64 < states_of l.subsystems
-HavePowers l (Some p) = (p.size ≡ states_of l.subsystems) × IsOfNoOther p.of l × (states_of l.subsystems ≤ 64)
-
--- room for its subsystems, where it has any
-abbrev pub IsRoomOf : LoopValue → Option Separate → Type 0
-IsRoomOf l None = Unit {0}
-IsRoomOf l (Some s) = (s.extent ≡ l) × (s.room ≡ l)
-
-abbrev pub HasSome : Option Separate → Type 0
-HasSome None = ⊥
-HasSome (Some s) = Unit {0}
-
--- its parts are those of the loop, and the chain is timed for phases of `hours`
-pub record IsOf (l : LoopValue) (m : Machine) : Type 0 where
-  pub space : m.space ≡ l
-  pub hours : IsWithin 1 350_400 m.hours
-  pub chain : m.chain ≡ record { of = l; hours = m.hours; beats = beats_of l.subsystems m.hours }
-  pub work : m.work ≡ states_of l.subsystems
-  pub places : m.places ≡ l
-  pub tests : m.tests ≡ l
-  pub powers : HavePowers l m.powers
-  pub separate : IsRoomOf l m.separate
 
 -- the greatest rate at which a loop may go down
 abbrev pub greatest_of : LoopValue → Fraction
@@ -79,10 +51,10 @@ powered_phase l order digits p =
 abbrev pub tests_products : LoopValue → ℕ → ℕ
 tests_products l p = group_tests_in l (slice_index (test_hours_of l) p) * test_products l.subsystems
 
--- all that the computation of a loop needs, at an order of the series: the vector stands at the start, and nothing is counted
-pub record IsPrepared (l : LoopValue) (order : ℕ) (p : Prepared) : Type 0 where
-  pub parts : IsOf l p.machine
-  pub weights : p.machine.weights ≡ order
+-- all that the computation of a loop needs, and each part is of that loop
+pub record IsReady (l : LoopValue) (p : Prepared) : Type 0 where
+  pub rooms : p.rooms.of ≡ l
+  pub tests : p.tests ≡ l
   pub up_length : length p.up.items ≡ states_of l.subsystems
   pub up : (i : ℕ) (d : Bool) → i < states_of l.subsystems → slice_index_or p.up.items i d ≡ is_up_of l.subsystems (state_numbered l.subsystems i)
   pub rates_length : length p.rates.items ≡ states_of l.subsystems
@@ -91,4 +63,7 @@ pub record IsPrepared (l : LoopValue) (order : ℕ) (p : Prepared) : Type 0 wher
   pub v : length p.v.items ≡ states_of l.subsystems
   pub mean : length p.mean.items ≡ states_of l.subsystems
   pub dwell : length p.dwell.items ≡ states_of l.subsystems
-  pub start : HasReached l order 0 p.dwell.items p.v.items 0 0
+
+-- the mission stands at the start of the phase q
+abbrev pub StandsAt : LoopValue → ℕ → ℕ → Prepared → Type 0
+StandsAt l order q p = HasReached l order q p.dwell.items p.v.items p.passages.least p.passages.most

@@ -30,7 +30,7 @@ pub record HasFed (l : LoopValue) (order p : ℕ) (asked : WatchSet) (before aft
   pub are : AreRecordsFrom l order 0 records
   pub fed : after ≡ map (fed_of asked records) before
 
--- memory was wanting on the way: they took in the records of some first phases, but of some of them the last ones may be missing
+-- out of memory on the way: they took in the records of some first phases, but of some of them the last ones may be missing
 pub record HasFedInPart (l : LoopValue) (order : ℕ) (asked : WatchSet) (before after : List WatcherValue) : Type 0 where
   pub records : List PhaseRecord
   pub number : length records ≤ length (phases_of l)

@@ -1,29 +1,25 @@
 //! The figures of a loop.
 
-ghost use Rattle.std.specs.Prelude.{◌≡◌, ℕ, ◌+◌, ◌*◌, ◌^◌, ◌≤◌, ◌<◌, ◌↔◌, Bool, None, Some, length, map, slice_index, slice_index_or, IfOk, OnOk, OnErr};
-ghost use Rattle.sil_fraction.specs.Fraction.{ratio};
-ghost use Rattle.sil_model.specs.Budget.{failure_rate_of, group_tests_of, pfd_width_of, pfh_width_of};
+ghost use Rattle.std.specs.Prelude.{◌≡◌, ℕ, ◌+◌, ◌≤◌, ◌↔◌, None, Some, length, map, IfOk, OnOk, OnErr};
+ghost use Rattle.sil_model.specs.Budget.{pfd_width_of, pfh_width_of};
 ghost use Rattle.sil_model.specs.Calendar.{phases_of};
 ghost use Rattle.sil_model.specs.Figures.{pfd_of, pfh_of, Contains18};
-ghost use Rattle.sil_model.specs.Pay.Mode.{Entry};
 ghost use Rattle.sil_model.specs.Sizes.{all_beats_of, states_of, most_states, most_beats, first_limit_of};
-ghost use Rattle.sil_model.specs.State.{is_up_of};
 ghost use Rattle.sil_model.specs.declared.answers.LimitFault.{LimitFault};
 ghost use Rattle.sil_model.specs.declared.answers.LimitFault.TheVariants.{TooManyTests, TooManyStates};
-ghost use Rattle.lumped_laws.specs.PayList.{payoff_list};
-ghost use Rattle.lumped_laws.specs.StateOfCounts.{state_numbered};
-ghost use Rattle.uniformise.specs.Beat.{beat_products};
-ghost use Rattle.loop_value.specs.Mission.{IsOf, IsPlanOf, HasReached, test_products};
+ghost use Rattle.phase_way.specs.Ways.{most_powered_states};
+ghost use Rattle.loop_value.specs.Mission.{IsReady, IsPlanOf, StandsAt};
 ghost use Rattle.loop_value.specs.Records.{HasFed, HasFedInPart};
 ghost use Rattle.loop_value.specs.Sizes.{sizes_of, value_products, HaveRoom, value_products_by_powers};
 
-use crate::ends::{divide, pfh_interval, sides};
-use crate::measuring::{ValueFault, lay_out};
-use crate::mission::{Machine, pass_mission};
-use crate::preparing::prepare;
+use crate::ends::{divide, pfh_interval};
+use crate::measuring::{Planned, ValueFault, lay_out};
+use crate::mission::pass_mission;
+use crate::preparing::{Prepared, prepare};
+use crate::sides::sides_of_means;
 use entry_rates::failure_rate;
-use interval_fixed::{Interval, ONE};
-use sil_model::{Decimal18, LimitFault, Loop, Sizes, Steps, Value};
+use interval_fixed::ONE;
+use sil_model::{Decimal18, LimitFault, Loop, Steps, Value};
 use sil_watch::{WatchSet, Watcher};
 use std::alloc::{AllocError, Global};
 use std::sync::ledger::Ledger;
@@ -35,7 +31,7 @@ use test_calendar::Plan;
 /// The limits are those of [`crate::measure`]. All memory but that of the watchers is taken before the first beat.
 ///
 /// The watchers whose kind is asked for are fed a record of every phase, in order of the phases, and each before
-/// the next is made. If memory is wanting to one of them, the computation ends. Where none is asked for, no record is made.
+/// the next is made. If one of them is out of memory, the computation ends. Where none is asked for, no record is made.
 pub fn value<L: Ledger>(
     alloc: Global,
     l: &Loop,
@@ -58,7 +54,7 @@ pub fn value<L: Ledger>(
 
     ensures within { OnOk result (first_limit_of l.now order ≡ None) }
     ensures first { (f : LimitFault) → result ≡ Err (ValueFault.Limit f) → first_limit_of l.now order ≡ Some f }
-    // no want of memory comes before these two
+    // out of memory comes after these two alone
     ensures too_many_tests { (n : ℕ) → (result ≡ Err (ValueFault.Limit (TooManyTests n))) ↔ (first_limit_of l.now order ≡ Some (TooManyTests n)) }
     ensures too_many_states { (n : ℕ) → (result ≡ Err (ValueFault.Limit (TooManyStates n))) ↔ (first_limit_of l.now order ≡ Some (TooManyStates n)) }
 
@@ -76,16 +72,7 @@ pub fn value<L: Ledger>(
         Ok(planned) => planned,
         Err(fault) => return Err(fault),
     };
-    match compute(
-        alloc,
-        l,
-        &planned.plan,
-        planned.sizes,
-        order,
-        feed,
-        asked,
-        steps,
-    ) {
+    match compute(alloc, l, &planned, order, feed, asked, steps) {
         Ok(value) => Ok(value),
         Err(fault) => Err(ValueFault::Memory(fault)),
     }
@@ -95,15 +82,14 @@ pub fn value<L: Ledger>(
 fn compute<L: Ledger>(
     alloc: Global,
     l: &Loop,
-    plan: &Plan,
-    sizes: Sizes,
+    planned: &Planned,
     order: u8,
     feed: &mut [Box<dyn Watcher>],
     asked: WatchSet,
     steps: &mut Steps<L>,
 ) -> Result<Value, AllocError>
-    requires plan { IsPlanOf l.now plan.now }
-    requires sizes { sizes ≡ sizes_of l.now order }
+    requires plan { IsPlanOf l.now planned.now.plan }
+    requires sizes { planned.now.sizes ≡ sizes_of l.now order }
     requires few_states { states_of l.now.subsystems ≤ most_states }
     requires few_beats { all_beats_of l.now ≤ most_beats }
     requires least { 16 ≤ order }
@@ -117,25 +103,15 @@ fn compute<L: Ledger>(
     ensures beats { IfOk result (λ v. v.beats ≡ all_beats_of l.now) }
     ensures order { IfOk result (λ v. v.order ≡ order) }
     ensures products { OnOk result (steps.new ≤ steps.old + value_products l.now order) }
-    ensures by_powers { OnOk result (states_of l.now.subsystems ≤ 64 → (digits : ℕ → ℕ) → HaveRoom digits
+    ensures by_powers { OnOk result (states_of l.now.subsystems ≤ most_powered_states → (digits : ℕ → ℕ) → HaveRoom digits
         → steps.new ≤ steps.old + value_products_by_powers l.now order digits) }
     ensures told { OnOk result (HasFed l.now order (length (phases_of l.now)) asked (map (λ w. watcher_value w) feed.old) (map (λ w. watcher_value w) feed.new)) }
     ensures refused { OnErr result (HasFedInPart l.now order asked (map (λ w. watcher_value w) feed.old) (map (λ w. watcher_value w) feed.new)) }
 {
+    let plan = &planned.plan;
     let mut parts = prepare(alloc, l, plan, order)?;
-    let figures = evaluate(
-        &mut parts.machine,
-        l,
-        plan,
-        parts.up.as_slice(),
-        parts.rates.as_slice(),
-        parts.v.as_mut_slice(),
-        parts.mean.as_mut_slice(),
-        parts.dwell.as_mut_slice(),
-        feed,
-        asked,
-        steps,
-    )?;
+    let figures = evaluate(&mut parts, l, plan, feed, asked, steps)?;
+    let sizes = planned.sizes;
     Ok(Value {
         pfd: figures.pfd,
         pfh: figures.pfh,
@@ -153,16 +129,11 @@ struct Figures {
     pfh: Decimal18,
 }
 
-/// The figures of a loop, by its machine and its vectors at the start.
+/// The figures of a loop, whose mission stands at the start.
 fn evaluate<L: Ledger>(
-    machine: &mut Machine,
+    m: &mut Prepared,
     l: &Loop,
     plan: &Plan,
-    up: &[bool],
-    rates: &[u64],
-    v: &mut [u128],
-    mean: &mut [u128],
-    dwell: &mut [u128],
     feed: &mut [Box<dyn Watcher>],
     asked: WatchSet,
     steps: &mut Steps<L>,
@@ -170,40 +141,33 @@ fn evaluate<L: Ledger>(
     requires plan { IsPlanOf l.now plan.now }
     requires few_states { states_of l.now.subsystems ≤ most_states }
     requires few_beats { all_beats_of l.now ≤ most_beats }
-    requires parts { IsOf l.now machine.old }
-    requires order { 16 ≤ machine.old.weights }
-    requires up_length { length up.now ≡ states_of l.now.subsystems }
-    requires up { (i : ℕ) (d : Bool) → i < states_of l.now.subsystems → slice_index_or up.now i d ≡ is_up_of l.now.subsystems (state_numbered l.now.subsystems i) }
-    requires rates_length { length rates.now ≡ states_of l.now.subsystems }
-    requires rates { (i : ℕ) → i < states_of l.now.subsystems → ratio (slice_index rates.now i) (10 ^ 18) ≡ payoff_list l.now.subsystems Entry i }
-    requires rates_within { (i : ℕ) → slice_index rates.now i ≤ failure_rate_of l.now.subsystems }
-    requires v { length v.old ≡ states_of l.now.subsystems }
-    requires mean { length mean.old ≡ states_of l.now.subsystems }
-    requires dwell { length dwell.old ≡ states_of l.now.subsystems }
-    requires start { HasReached l.now machine.old.weights 0 dwell.old v.old 0 0 }
-    ensures pfd { IfOk result (λ figures. (N : ℕ) → machine.old.weights ≤ N → Contains18 figures.pfd.lo figures.pfd.hi (pfd_of N l.now)) }
-    ensures pfh { IfOk result (λ figures. (N : ℕ) → machine.old.weights ≤ N → Contains18 figures.pfh.lo figures.pfh.hi (pfh_of N l.now)) }
-    ensures pfd_width { IfOk result (λ figures. figures.pfd.hi ≤ figures.pfd.lo + pfd_width_of l.now machine.old.weights) }
-    ensures pfh_width { IfOk result (λ figures. figures.pfh.hi ≤ figures.pfh.lo + pfh_width_of l.now machine.old.weights) }
-    ensures products { OnOk result (steps.new ≤ steps.old + value_products l.now machine.old.weights) }
-    ensures by_powers { OnOk result (states_of l.now.subsystems ≤ 64 → (digits : ℕ → ℕ) → HaveRoom digits
-        → steps.new ≤ steps.old + value_products_by_powers l.now machine.old.weights digits) }
-    ensures told { OnOk result (HasFed l.now machine.old.weights (length (phases_of l.now)) asked (map (λ w. watcher_value w) feed.old) (map (λ w. watcher_value w) feed.new)) }
-    ensures refused { OnErr result (HasFedInPart l.now machine.old.weights asked (map (λ w. watcher_value w) feed.old) (map (λ w. watcher_value w) feed.new)) }
+    requires ready { IsReady l.now m.old }
+    requires order { 16 ≤ m.old.rooms.order }
+    requires start { StandsAt l.now m.old.rooms.order 0 m.old }
+    ensures pfd { IfOk result (λ figures. (N : ℕ) → m.old.rooms.order ≤ N → Contains18 figures.pfd.lo figures.pfd.hi (pfd_of N l.now)) }
+    ensures pfh { IfOk result (λ figures. (N : ℕ) → m.old.rooms.order ≤ N → Contains18 figures.pfh.lo figures.pfh.hi (pfh_of N l.now)) }
+    ensures pfd_width { IfOk result (λ figures. figures.pfd.hi ≤ figures.pfd.lo + pfd_width_of l.now m.old.rooms.order) }
+    ensures pfh_width { IfOk result (λ figures. figures.pfh.hi ≤ figures.pfh.lo + pfh_width_of l.now m.old.rooms.order) }
+    ensures products { OnOk result (steps.new ≤ steps.old + value_products l.now m.old.rooms.order) }
+    ensures by_powers { OnOk result (states_of l.now.subsystems ≤ most_powered_states → (digits : ℕ → ℕ) → HaveRoom digits
+        → steps.new ≤ steps.old + value_products_by_powers l.now m.old.rooms.order digits) }
+    ensures told { OnOk result (HasFed l.now m.old.rooms.order (length (phases_of l.now)) asked (map (λ w. watcher_value w) feed.old) (map (λ w. watcher_value w) feed.new)) }
+    ensures refused { OnErr result (HasFedInPart l.now m.old.rooms.order asked (map (λ w. watcher_value w) feed.old) (map (λ w. watcher_value w) feed.new)) }
 {
-    let passages = pass_mission(machine, l, plan, up, v, mean, dwell, feed, asked, steps)?;
-    divide(dwell, l.mission());
-    let (down, above) = sides(dwell, up);
-    let lack = ONE - down - above;
+    pass_mission(m, l, plan, feed, asked, steps)?;
+    divide(m.dwell.as_mut_slice(), l.mission());
+    let means = m.dwell.as_slice();
+    let sides = sides_of_means(means, m.up.as_slice());
+    let lack = ONE - sides.down - sides.up;
     Ok(Figures {
-        pfd: Interval::from_parts(down, above).to_decimal18(),
+        pfd: sides.chance_down(),
         pfh: pfh_interval(
-            dwell,
-            rates,
+            means,
+            m.rates.as_slice(),
             failure_rate(l),
             lack,
             l.mission(),
-            passages,
+            m.passages,
             steps,
         ),
     })

@@ -6,7 +6,7 @@ mod evaluating;
 mod measuring;
 mod mission;
 mod preparing;
-mod separate;
+mod sides;
 mod telling;
 
 pub use evaluating::value;

@@ -7,7 +7,7 @@ use Rattle.sil_model.specs.LoopValue.{channels_of, single_groups, groups_by_test
 use Rattle.sil_model.specs.declared.parts.Group.{Group}
 use Rattle.sil_model.specs.declared.parts.Subsystem.{Subsystem}
 use Rattle.sil_model.specs.declared.parts.TestPlan.{TestPlan}
-use Rattle.test_calendar.specs.GroupTests.{GroupChannels, channels_from, group_channels_of}
+use Rattle.count_laws.specs.GroupChannels.{GroupChannels, channels_from, group_channels_of}
 use Rattle.count_laws.specs.SameCounts.{first_of}
 use Rattle.count_laws.proofs.SameCounts.{rest_next, channels_next}
 use Rattle.lumped_laws.specs.GroupLaws.{IsOfGroup, GroupLaw}

@@ -2,13 +2,14 @@
 use Rattle.std.proofs.Common.{◌≡◌, ℕ, zero, suc, ◌+◌, List, [], ◌∷◌, ◌++◌, length, take, drop, replicate, refl, sym, ap, ◌∙◌, arith, length-append, length-drop, length-take-le, drop-drop, append_assoc, append-nil}
 use Rattle.std.specs.Prelude.{if◌then◌else◌}
 use Rattle.std.proofs.Math.Seq.{take-append_seam, drop-append_seam}
+use Rattle.sil_model.specs.Sizes.{channel_states}
 use Rattle.sil_model.specs.State.{FullState, count_of, is_same_chan}
 use Rattle.sil_model.specs.Counts.{IsCounts, count_in, counts_at_start}
 use Rattle.sil_model.specs.declared.parts.Chan.{Chan}
 use Rattle.sil_model.specs.declared.parts.Chan.TheVariants.{Work, Hidden, Deep, Repair}
 use Rattle.sil_model.specs.declared.parts.Group.{Group}
 use Rattle.count_laws.specs.CountsOf.{tally_of, counts_of}
-use Rattle.lumping.proofs.Numbering.{IsCounts-rest, IsCounts-cons}
+use Rattle.count_laws.proofs.Numbering.{IsCounts-rest, IsCounts-cons}
 use Rattle.lumped_laws.specs.GroupLaws.{channels_over}
 use Rattle.lumped_laws.specs.StateOfCounts.{channels_with, state_of_counts}
 
@@ -104,14 +105,14 @@ module _ (w h d r : ℕ) where
 pub counted-back : (gs : List Group) (cs : List ℕ) → IsCounts gs cs → counts_of gs (state_of_counts gs cs) ≡ cs
 unfolding state_of_counts
 counted-back [] [] v = refl
-counted-back [] (c ∷ cs) v = absurd (omega (arith, v.four_each))
+counted-back [] (c ∷ cs) v = absurd (omega (arith, v.each))
 counted-back (g ∷ gs) (w ∷ h ∷ d ∷ r ∷ cs) v =
     first_counted w h d r g.size (state_of_counts gs cs) gs (v.sums 0 g (omega arith))
     ∙ ap (λ x. w ∷ h ∷ d ∷ r ∷ x) (counted-back gs cs (IsCounts-rest g gs (w ∷ h ∷ d ∷ r ∷ cs) v))
-counted-back (g ∷ gs) (w ∷ h ∷ d ∷ []) v = absurd (omega (arith, v.four_each))
-counted-back (g ∷ gs) (w ∷ h ∷ []) v = absurd (omega (arith, v.four_each))
-counted-back (g ∷ gs) (w ∷ []) v = absurd (omega (arith, v.four_each))
-counted-back (g ∷ gs) [] v = absurd (omega (arith, v.four_each))
+counted-back (g ∷ gs) (w ∷ h ∷ d ∷ []) v = absurd (omega (arith, v.each))
+counted-back (g ∷ gs) (w ∷ h ∷ []) v = absurd (omega (arith, v.each))
+counted-back (g ∷ gs) (w ∷ []) v = absurd (omega (arith, v.each))
+counted-back (g ∷ gs) [] v = absurd (omega (arith, v.each))
 
 pub length-counted : (gs : List Group) (cs : List ℕ) → IsCounts gs cs → length (state_of_counts gs cs) ≡ channels_over gs
 unfolding state_of_counts
@@ -120,15 +121,15 @@ length-counted (g ∷ gs) cs v =
     let own : FullState = channels_with cs in
     omega (
       arith,
-      length-append own (state_of_counts gs (drop 4 cs)),
+      length-append own (state_of_counts gs (drop channel_states cs)),
       length-in_order (count_in cs 0 Work) (count_in cs 0 Hidden) (count_in cs 0 Deep) (count_in cs 0 Repair),
       v.sums 0 g (omega arith),
-      length-counted gs (drop 4 cs) (IsCounts-rest g gs cs v),
+      length-counted gs (drop channel_states cs) (IsCounts-rest g gs cs v),
     )
 
 -- the counts of as many channels as the groups have are a count vector
 pub counted-valid : (gs : List Group) (s : FullState) → length s ≡ channels_over gs → IsCounts gs (counts_of gs s)
-counted-valid [] s e = record { four_each = refl; sums = λ g d h. absurd (omega arith) }
+counted-valid [] s e = record { each = refl; sums = λ g d h. absurd (omega arith) }
 counted-valid (g ∷ gs) s e =
     let long : length (take g.size s) ≡ g.size = length-take-le g.size s (omega arith) in
     IsCounts-cons g gs (counts_of (g ∷ gs) s) (omega arith) (omega (arith, all_counted (take g.size s), long))

@@ -10,7 +10,7 @@ use Rattle.sil_model.specs.declared.parts.Chan.TheVariants.{Work, Hidden, Deep, 
 use Rattle.sil_model.specs.declared.parts.Subsystem.{Subsystem}
 use Rattle.sil_model.specs.declared.parts.TestPlan.{TestPlan}
 use Rattle.sil_model.specs.declared.parts.Group.{Group}
-use Rattle.lumping.proofs.Numbering.{count_in-drop}
+use Rattle.count_laws.proofs.Numbering.{count_in-drop}
 use Rattle.count_laws.specs.CountsOf.{tally_of, counts_of}
 use Rattle.count_laws.specs.SameCounts.{first_of, count_in_group}
 use Rattle.count_laws.proofs.SameCounts.{rest_next, channels_next}

@@ -13,7 +13,7 @@ use Rattle.sil_model.specs.declared.parts.Chan.{Chan}
 use Rattle.sil_model.specs.declared.parts.Group.{Group}
 use Rattle.sil_model.specs.declared.parts.Subsystem.{Subsystem}
 use Rattle.count_laws.specs.SameCounts.{count_in_group, IsFull, IsSameCounts}
-use Rattle.lumping.proofs.Numbering.{number_of-small, counts_numbered-number_of, counts_numbered-valid, number_of-counts_numbered, start-valid, number_of-start}
+use Rattle.count_laws.proofs.Numbering.{number_of-small, counts_numbered-number_of, counts_numbered-valid, number_of-counts_numbered, start-valid, number_of-start}
 use Rattle.lumped_laws.specs.CountsOfState.{counts_of_state, number_of_state}
 use Rattle.lumped_laws.specs.StateOfCounts.{state_of_counts, state_numbered}
 use Rattle.lumped_laws.specs.StateLaws.{KeepsFull, IsCountedAfter, StateLaw}

@@ -4,7 +4,7 @@ use Rattle.sil_fraction.specs.Fraction.{ratio}
 use Rattle.sil_model.specs.LoopValue.{channels_of, groups_of}
 use Rattle.sil_model.specs.declared.parts.Group.{Group}
 use Rattle.sil_model.specs.declared.parts.Subsystem.{Subsystem}
-use Rattle.test_calendar.specs.GroupTests.{GroupChannels, group_channels_of}
+use Rattle.count_laws.specs.GroupChannels.{GroupChannels, group_channels_of}
 use Rattle.count_laws.specs.SameCounts.{first_of}
 
 -- the channels of all these groups

@@ -1,4 +1,5 @@
 pub mod CountsOfState
+pub use Rattle.count_laws.specs.CountsOf
 pub mod StateOfCounts
 pub mod GroupLaws
 pub mod StateLaws

@@ -1,32 +1,7 @@
--- How many lists have a sum below a number, as a product.
-use Rattle.std.proofs.Common.{◌≡◌, ℕ, zero, suc, ◌+◌, ◌*◌, ◌/◌, ◌≤◌, refl, arith}
+-- How many lists have a sum below a small number, as the code computes it.
+use Rattle.std.proofs.Common.{ℕ, ◌+◌, ◌*◌, ◌≤◌, arith}
 use Rattle.std.proofs.Math.Nat.{mul-le-mul_right}
-use Rattle.sil_model.specs.Sizes.{shares_of}
-use Rattle.sil_model.specs.Counts.{lists_below}
-
-pub singles : (n : ℕ) → lists_below 1 n ≡ n
-unfolding lists_below
-singles zero = refl
-singles (suc n) = omega (arith, singles n)
-
-pub twice-pairs : (n : ℕ) → 2 * lists_below 2 n ≡ n * (n + 1)
-unfolding lists_below
-twice-pairs zero = refl
-twice-pairs (suc n) = omega (arith, twice-pairs n, singles (suc n))
-
-pub six-triples : (n : ℕ) → 6 * lists_below 3 n ≡ n * (n + 1) * (n + 2)
-unfolding lists_below
-six-triples zero = refl
-six-triples (suc n) = omega (arith, six-triples n, twice-pairs (suc n))
-
-pub pairs : (n : ℕ) → n * (n + 1) / 2 ≡ lists_below 2 n
-pairs n = omega (arith, twice-pairs n)
-
-pub triples : (n : ℕ) → n * (n + 1) * (n + 2) / 6 ≡ lists_below 3 n
-triples n = omega (arith, six-triples n)
-
-pub shares : (n : ℕ) → shares_of n ≡ lists_below 3 (suc n)
-shares n = omega (arith, six-triples (suc n))
+use Rattle.count_laws.proofs.Closed.{pairs, triples}
 
 -- products of small numbers
 pub few_pairs : (n : ℕ) → n ≤ 9 → n * (n + 1) ≤ 90

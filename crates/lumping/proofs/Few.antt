@@ -5,13 +5,14 @@ use Rattle.std.proofs.Math.Nat.{mul-le-mul, mul-le-mul_right, pow-suc, pow-le-po
 use Rattle.std.proofs.lemmas.Nat.{pow-add}
 use Rattle.std.proofs.lemmas.List.Elements.{All-nil, All-cons, All-append, All-head, All-tail}
 use Rattle.sil_model.specs.LoopValue.{IsValid, IsSubsystemInRange, LoopValue, channels_of, groups_of, groups_from, groups_by_test, single_groups}
-use Rattle.sil_model.specs.Sizes.{shares_of, states_over}
+use Rattle.sil_model.specs.Sizes.{channel_states, shares_of, states_over}
 use Rattle.sil_model.specs.Counts.{lists_below}
 use Rattle.sil_model.specs.declared.parts.Subsystem.{Subsystem}
 use Rattle.sil_model.specs.declared.parts.TestPlan.{TestPlan}
 use Rattle.sil_model.specs.declared.parts.Group.{Group}
-use Rattle.lumping.proofs.Closed.{shares, six-triples, twice-pairs}
-use Rattle.lumping.proofs.Lists.{below-next}
+use Rattle.sil_model.proofs.StatesAlone.{states-single}
+use Rattle.count_laws.proofs.Closed.{shares, six-triples, twice-pairs}
+use Rattle.count_laws.proofs.Lists.{below-next}
 
 -- a group has at most eight channels
 
@@ -44,7 +45,7 @@ groups-few l v = few-from 0 l.subsystems v.subsystems
 
 -- there are at most as many count vectors as full states
 
-four-triples : (n : ℕ) → lists_below 3 (suc (suc n)) ≤ 4 * lists_below 3 (suc n)
+four-triples : (n : ℕ) → lists_below 3 (suc (suc n)) ≤ channel_states * lists_below 3 (suc n)
 four-triples n =
     let some : 1 ≤ n + 1 = omega arith in
     omega (arith, below-next 2 (suc n), twice-pairs (suc (suc n)), six-triples (suc n), mul-le-mul_right ((n + 2) * (n + 3)) some)
@@ -53,40 +54,36 @@ one-triple : lists_below 3 1 ≡ 1
 unfolding lists_below
 one-triple = refl
 
-triples-pow : (n : ℕ) → lists_below 3 (suc n) ≤ 4 ^ n
+triples-pow : (n : ℕ) → lists_below 3 (suc n) ≤ channel_states ^ n
 triples-pow zero = omega (arith, one-triple)
-triples-pow (suc n) = rw (pow-suc 4 n) (omega (arith, four-triples n, triples-pow n))
+triples-pow (suc n) = rw (pow-suc channel_states n) (omega (arith, four-triples n, triples-pow n))
 
-shares-pow : (n : ℕ) → shares_of n ≤ 4 ^ n
+shares-pow : (n : ℕ) → shares_of n ≤ channel_states ^ n
 shares-pow n = rw (shares n) (triples-pow n)
 
 states_over-append : (xs ys : List Group) → states_over (xs ++ ys) ≡ states_over xs * states_over ys
 states_over-append [] ys = omega arith
 states_over-append (x ∷ xs) ys = rw (states_over-append xs ys) (omega arith)
 
-states-single : (i c n : ℕ) → states_over (single_groups i c n) ≤ 4 ^ n
-states-single i c zero = omega arith
-states-single i c (suc n) = rw (pow-suc 4 n) (omega (arith, states-single i (suc c) n))
-
-states-by_test : (i n : ℕ) (t : Option TestPlan) → states_over (groups_by_test i n t) ≤ 4 ^ n
+states-by_test : (i n : ℕ) (t : Option TestPlan) → states_over (groups_by_test i n t) ≤ channel_states ^ n
 states-by_test i n None = omega (arith, shares-pow n)
 states-by_test i n (Some p) =
-    elim (p.stagger == 0) as (λ b. states_over (if b then record { subsystem = i; first_channel = 0; size = n } ∷ [] else single_groups i 0 n) ≤ 4 ^ n)
-    [ true ↦ omega (arith, shares-pow n) | false ↦ states-single i 0 n ]
+    elim (p.stagger == 0) as (λ b. states_over (if b then record { subsystem = i; first_channel = 0; size = n } ∷ [] else single_groups i 0 n) ≤ channel_states ^ n)
+    [ true ↦ omega (arith, shares-pow n) | false ↦ omega (arith, states-single i 0 n) ]
 
-states-from : (i : ℕ) (us : List Subsystem) → states_over (groups_from i us) ≤ 4 ^ channels_of us
+states-from : (i : ℕ) (us : List Subsystem) → states_over (groups_from i us) ≤ channel_states ^ channels_of us
 states-from i [] = omega arith
 states-from i (u ∷ us) =
-    rw (states_over-append (groups_by_test i u.vote.n u.test) (groups_from (suc i) us), pow-add 4 u.vote.n (channels_of us))
+    rw (states_over-append (groups_by_test i u.vote.n u.test) (groups_from (suc i) us), pow-add channel_states u.vote.n (channels_of us))
     (mul-le-mul (states-by_test i u.vote.n u.test) (states-from (suc i) us))
 
 channels-few : (us : List Subsystem) → All IsSubsystemInRange us → channels_of us ≤ 8 * length us
 channels-few [] h = omega arith
 channels-few (u ∷ us) h = omega (arith, (All-head IsSubsystemInRange u us h).vote.few, channels-few us (All-tail IsSubsystemInRange u us h))
 
-pub states-few : (l : LoopValue) → IsValid l → states_over (groups_of l.subsystems) ≤ 4 ^ 48
+pub states-few : (l : LoopValue) → IsValid l → states_over (groups_of l.subsystems) ≤ channel_states ^ 48
 unfolding groups_of
 states-few l v =
-    let four : 0 < 4 = lit≤ tt in
+    let some : 0 < channel_states = lit≤ tt in
     let most : channels_of l.subsystems ≤ 48 = omega (arith, channels-few l.subsystems v.subsystems, v.few.below) in
-    omega (arith, states-from 0 l.subsystems, pow-le-pow_right four most)
+    omega (arith, states-from 0 l.subsystems, pow-le-pow_right some most)

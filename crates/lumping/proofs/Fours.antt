@@ -1,10 +1,10 @@
 -- The four counts of one group.
 use Rattle.std.proofs.Common.{◌≡◌, ℕ, suc, ◌+◌, ◌-◌, ◌<◌, ◌≤◌, inl, inr, List, [], ◌∷◌, length, get_or, refl, sym, ap, ◌∙◌, arith, add-one}
 use Rattle.std.proofs.lemmas.Bool.{cases_lt}
-use Rattle.sil_model.specs.Sizes.{shares_of}
+use Rattle.sil_model.specs.Sizes.{channel_states, shares_of}
 use Rattle.sil_model.specs.Counts.{together, lists_below, list_number, list_numbered}
-use Rattle.lumping.proofs.Closed.{singles, shares}
-use Rattle.lumping.proofs.Lists.{below-monotone, below-next, list_numbered-step, list_numbered-last}
+use Rattle.count_laws.proofs.Closed.{singles, shares}
+use Rattle.count_laws.proofs.Lists.{below-monotone, below-next, list_numbered-step, list_numbered-last}
 
 -- below 0 there is none
 pub none_at_first : (k : ℕ) → lists_below k 0 ≡ 0
@@ -12,7 +12,7 @@ unfolding lists_below
 none_at_first k = refl
 
 -- the number of four counts, by the sums of the last ones
-pub list_number-four : (cs : List ℕ) (t p r u f : ℕ) → length cs ≡ 4 → r ≡ get_or cs 3 0 → u ≡ get_or cs 2 0 + r → f ≡ get_or cs 1 0 + u
+pub list_number-four : (cs : List ℕ) (t p r u f : ℕ) → length cs ≡ channel_states → r ≡ get_or cs 3 0 → u ≡ get_or cs 2 0 + r → f ≡ get_or cs 1 0 + u
     → t ≡ lists_below 3 f → p ≡ lists_below 2 u → t + p + r ≡ list_number cs
 unfolding list_number
 list_number-four (a ∷ b ∷ c ∷ d ∷ []) t p r u f n er eu ef et ep =
@@ -27,7 +27,7 @@ list_number-four (a ∷ []) t p r u f n er eu ef et ep = absurd (omega arith)
 list_number-four [] t p r u f n er eu ef et ep = absurd (omega arith)
 
 -- the sum of four counts
-pub together-four : (cs : List ℕ) → length cs ≡ 4 → together cs ≡ get_or cs 0 0 + get_or cs 1 0 + get_or cs 2 0 + get_or cs 3 0
+pub together-four : (cs : List ℕ) → length cs ≡ channel_states → together cs ≡ get_or cs 0 0 + get_or cs 1 0 + get_or cs 2 0 + get_or cs 3 0
 together-four (a ∷ b ∷ c ∷ d ∷ []) n = omega arith
 together-four (a ∷ b ∷ c ∷ d ∷ e ∷ cs) n = absurd (omega arith)
 together-four (a ∷ b ∷ c ∷ []) n = absurd (omega arith)
@@ -60,7 +60,7 @@ module _ (n i x j y z : ℕ) (small : i < shares_of n) (triples : lists_below 3 
   pub few_deep : y ≤ x
   few_deep = omega (arith, below-reflects 1 y (x + 1) (omega arith))
 
-  pub list_numbered-four : list_numbered 3 n i ≡ (n - x) ∷ (x - y) ∷ (y - z) ∷ z ∷ []
+  pub list_numbered-four : list_numbered (channel_states - 1) n i ≡ (n - x) ∷ (x - y) ∷ (y - z) ∷ z ∷ []
   list_numbered-four =
       let one : lists_below 2 (x + 1) ≡ lists_below 2 (suc x) = let e : x + 1 ≡ suc x = omega arith in ap (lists_below 2) e in
       list_numbered-step 2 n i x j few_failed triples (omega arith)

@@ -1,18 +1,10 @@
 //! The counts of one group, and their number among those of its size.
 
 ghost use Rattle.std.specs.Prelude.{◌≡◌, ℕ, ◌+◌, ◌-◌, ◌<◌, ◌≤◌, length};
-ghost use Rattle.sil_model.specs.Sizes.{shares_of};
+ghost use Rattle.sil_model.specs.Sizes.{channel_states, shares_of};
 ghost use Rattle.sil_model.specs.Counts.{together, lists_below, list_number, list_numbered};
 
-/// How many count vectors a group of this size has: n channels share out over four states in C(n + 3, 3) ways.
-pub fn shares(size: u8) -> usize
-    requires { size ≤ 8 }
-    ensures shares { result ≡ shares_of size }
-    ensures few { result ≤ 165 }
-{
-    let n = usize::from(size);
-    (n + 1) * (n + 2) * (n + 3) / 6
-}
+use sil_model::CHANNEL_STATES;
 
 /// How many lists of three numbers have a sum below `sum`.
 #[tactic(auto, using(crate::proofs::Closed::closed))]
@@ -36,7 +28,7 @@ fn pairs_below(sum: usize) -> usize
 
 /// The number of the four counts of a group among those of its size.
 pub fn number_in_group(counts: &[u8]) -> usize
-    requires four { length counts.now ≡ 4 }
+    requires each { length counts.now ≡ channel_states }
     requires few { together counts.now ≤ 8 }
     ensures { result ≡ list_number counts.now }
 {
@@ -80,10 +72,10 @@ fn split_pairs(number: usize) -> (usize, usize)
 }
 
 /// The four counts of a group of this size that have this number.
-pub fn counts_in_group(size: u8, number: usize) -> [u8; 4]
+pub fn counts_in_group(size: u8, number: usize) -> [u8; CHANNEL_STATES]
     requires few { size ≤ 8 }
     requires number { number < shares_of size }
-    ensures { result ≡ list_numbered 3 size number }
+    ensures { result ≡ list_numbered (channel_states - 1) size number }
 {
     let (failed, rest) = split_triples(number);
     let (deep_or_repair, in_repair) = split_pairs(rest);

@@ -1,13 +1,13 @@
 //! The count vectors of a loop: how many channels of each group are in each state.
 //!
-//! Channels of one group are alike, so that a state of the loop is lumped to four counts for each group: those in Work,
+//! Channels of one group are alike, so that a state of the loop is lumped to the counts of each group: those in Work,
 //! Hidden, Deep and Repair. [`Space`] numbers the count vectors of a loop from 0 on, by arithmetic alone: it keeps no
 //! table. Within a group first come the counts with the fewest channels out of Work, then those with the fewest in Deep
 //! or Repair, then those with the fewest in Repair; over the groups the numbers are digits, that of the first group being
 //! the least. So the state in which every channel works has the number 0.
 //!
-//! `proofs/Numbering` has the laws of the numbering that the crates above cite, and `proofs/Moves` says which count
-//! vectors a moved channel leads to.
+//! The laws of the numbering stand in `count_laws` (`proofs/Numbering`); `proofs/Moves` says which count vectors a moved
+//! channel leads to.
 #![tactic(auto)]
 
 ghost use Rattle.std.specs.Prelude.{List};

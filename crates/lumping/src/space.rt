@@ -2,13 +2,13 @@
 
 ghost use Rattle.std.specs.Prelude.{◌≡◌, ℕ, ◌<◌, ◌≤◌, ◌*◌, ◌^◌, ◌↔◌, length, All, IfOk};
 ghost use Rattle.sil_model.specs.LoopValue.{groups_of};
-ghost use Rattle.sil_model.specs.Sizes.{states_of, states_over, most_states};
+ghost use Rattle.sil_model.specs.Sizes.{channel_states, states_of, states_over, most_states, most_states_of};
 ghost use Rattle.sil_model.specs.Counts.{IsCounts, number_of, counts_numbered};
 ghost use Rattle.lumping.specs.Kept.{IsSmall};
 ghost use Rattle.sil_model.specs.declared.answers.LimitFault.{LimitFault};
 
-use crate::group::{counts_in_group, number_in_group, shares};
-use sil_model::{Group, LimitFault, Loop, MOST_STATES};
+use crate::group::{counts_in_group, number_in_group};
+use sil_model::{CHANNEL_STATES, Group, LimitFault, Loop, shares};
 use std::alloc::{AllocError, Global};
 use std::marker::Model;
 use std::snapshot::Snapshot;
@@ -18,13 +18,13 @@ use std::snapshot::Snapshot;
 pub enum SpaceFault {
     /// It has too many count vectors.
     Limit(LimitFault),
-    /// Memory is wanting.
+    /// The program is out of memory.
     Memory(AllocError),
 }
 
 /// The count vectors of a loop, numbered from 0 on. Contracts see it as the loop.
 ///
-/// A count vector has four numbers for each group of the loop, in the order of the groups: how many of the group's
+/// A count vector has a number for each state of each group, in the order of the groups: how many of the group's
 /// channels are in Work, Hidden, Deep and Repair. Their sum is the size of the group.
 #[derive(Drop)]
 pub struct Space {
@@ -47,15 +47,15 @@ impl Model for Space {
 }
 
 impl Space {
-    /// The space of a loop. It is refused exactly where the loop has more count vectors than [`MOST_STATES`], with
-    /// their number.
+    /// The space of a loop. It is refused exactly where the loop has more count vectors than it may have, with their
+    /// number.
     pub fn new(alloc: Global, l: &Loop) -> Result<Space, SpaceFault>
-        ensures refused { (result ≡ Err (SpaceFault.Limit (LimitFault.TooManyStates (states_of l.now.subsystems)))) ↔ (most_states < states_of l.now.subsystems) }
+        ensures refused { (result ≡ Err (SpaceFault.Limit (LimitFault.TooManyStates (states_of l.now.subsystems)))) ↔ (most_states_of l.now < states_of l.now.subsystems) }
         ensures no_other_limit { (f : LimitFault) → result ≡ Err (SpaceFault.Limit f) → f ≡ LimitFault.TooManyStates (states_of l.now.subsystems) }
         ensures of_the_loop { IfOk result (λ s. s ≡ l.now) }
     {
         let count = state_count(l);
-        if count > MOST_STATES {
+        if count > l.most_states() {
             return Err(SpaceFault::Limit(LimitFault::TooManyStates(count)));
         }
         let groups = groups_of(alloc, l).map_err(SpaceFault::Memory)?;
@@ -66,7 +66,7 @@ impl Space {
         })
     }
 
-    /// How many count vectors there are, from 1 to [`MOST_STATES`].
+    /// How many count vectors there are, from 1 to [`MOST_STATES`](sil_model::MOST_STATES).
     pub fn size(&self) -> usize
         ensures size { result ≡ states_of self.now.subsystems }
         ensures some { 1 ≤ result }
@@ -85,10 +85,10 @@ impl Space {
         number_over(self.groups.as_slice(), counts)
     }
 
-    /// Writes the count vector of a number, four counts for each group.
+    /// Writes the count vector of a number.
     pub fn counts_at(&self, i: usize, counts: &mut [u8])
         requires number { i < states_of self.now.subsystems }
-        requires length { length counts.old ≡ 4 * length (groups_of self.now.subsystems) }
+        requires length { length counts.old ≡ channel_states * length (groups_of self.now.subsystems) }
         ensures counts { counts.new ≡ counts_numbered (groups_of self.now.subsystems) i }
         ensures valid { IsCounts (groups_of self.now.subsystems) counts.new }
         ensures back { number_of (groups_of self.now.subsystems) counts.new ≡ i }
@@ -100,7 +100,7 @@ impl Space {
 /// How many count vectors a loop has, also where they are too many for a space.
 pub fn state_count(l: &Loop) -> u128
     ensures count { result ≡ states_of l.now.subsystems }
-    ensures few { result ≤ 4 ^ 48 }
+    ensures few { result ≤ channel_states ^ 48 }
 {
     // The values of a loop are in their ranges, so the product does not wrap.
     let _ = l.len();
@@ -134,8 +134,8 @@ fn number_over(groups: &[Group], counts: &[u8]) -> usize
 {
     let mut number = 0;
     for g in (0..groups.len()).rev() {
-        let four = &counts[4 * g..4 * g + 4];
-        number = number * shares(groups[g].size) + number_in_group(four);
+        let of_group = &counts[CHANNEL_STATES * g..CHANNEL_STATES * (g + 1)];
+        number = number * shares(groups[g].size) as usize + number_in_group(of_group);
     }
     number
 }
@@ -144,15 +144,15 @@ fn number_over(groups: &[Group], counts: &[u8]) -> usize
 fn write_counts(groups: &[Group], i: usize, counts: &mut [u8])
     requires groups { IsSmall groups.now }
     requires number { i < states_over groups.now }
-    requires length { length counts.old ≡ 4 * length groups.now }
+    requires length { length counts.old ≡ channel_states * length groups.now }
     ensures { counts.new ≡ counts_numbered groups.now i }
 {
     let mut rest = i;
     for g in 0..groups.len() {
         let size = groups[g].size;
-        let ways = shares(size);
-        let four = counts_in_group(size, rest % ways);
-        counts[4 * g..4 * g + 4].copy_from_slice(&four);
+        let ways = shares(size) as usize;
+        let of_group = counts_in_group(size, rest % ways);
+        counts[CHANNEL_STATES * g..CHANNEL_STATES * (g + 1)].copy_from_slice(&of_group);
         rest /= ways;
     }
 }

@@ -1,24 +1,23 @@
 -- The time down and the time up come to the mission; the entries and what is left of them to the greatest rate over the
 -- mission and one passage at each test hour.
-use Rattle.std.proofs.Common.{◌≡◌, ℕ, zero, suc, ◌+◌, true, false, List, [], ◌∷◌, ◌++◌, length, replicate, refl, sym, ap, ◌∙◌, arith}
-use Rattle.std.specs.Prelude.{Bool, not, ◌&&◌, if◌then◌else◌}
-use mathlib.Core.Path.{fun_ext}
-use Rattle.sil_fraction.specs.Fraction.{Fraction, ◌+ℚ◌, ◌*ℚ◌, ◌-ℚ◌, ◌≤ℚ◌, whole, ratio}
+use Rattle.std.proofs.Common.{◌≡◌, ℕ, zero, suc, ◌+◌, true, false, List, [], ◌∷◌, ◌++◌, length, replicate, refl, ap, ◌∙◌, arith}
+use Rattle.std.specs.Prelude.{Bool, not, ◌&&◌}
+use Rattle.sil_fraction.specs.Fraction.{Fraction, ◌+ℚ◌, ◌*ℚ◌, ◌≤ℚ◌, whole, ratio}
 use Rattle.sil_fraction.proofs.Laws.{add_comm, sub-add, zero-add, le_refl, le_trans, le_of_same, zero-le}
 use Rattle.sil_fraction.proofs.Sums.{add-zero, mul-one, mul-zero}
 use Rattle.sil_model.specs.State.{is_up_of}
 use Rattle.sil_model.specs.Series.{Values}
 use Rattle.sil_model.specs.Calendar.{ChannelTest, Phase, phases_of, test_hours_of, tests_at, beats_of}
 use Rattle.sil_model.specs.LoopValue.{LoopValue, IsValid}
-use Rattle.sil_model.specs.Pay.{Item, Mode, payoff_of, last_of, items_from, beats_items, schedule_of, one_if}
+use Rattle.sil_model.specs.Pay.{Item, payoff_of, last_of, items_from, schedule_of, one_if}
 use Rattle.sil_model.specs.Pay.Item.{Beat, Tests}
 use Rattle.sil_model.specs.Pay.Mode.{Down, Up, Entry}
 use Rattle.sil_model.specs.declared.parts.Subsystem.{Subsystem}
 use Rattle.model_laws.specs.Hours.{hours_of, AreShort, AreChances}
-use Rattle.test_calendar.proofs.PhasesOfLoop.{length-phases_of}
+use Rattle.schedule_laws.proofs.PhasesOfLoop.{length-phases_of}
 use Rattle.lumped_laws.specs.ValueLists.{passing, passing_list}
 use Rattle.lumped_laws.specs.StateOfCounts.{state_numbered}
-use Rattle.lumped_laws.specs.PayList.{payoff_list, last_list, pay_list}
+use Rattle.lumped_laws.specs.PayList.{payoff_list, pay_list}
 use Rattle.lumped_laws.proofs.LinearLists.{after-grows, after-constant}
 use Rattle.schedule_laws.proofs.ShortSchedules.{short_mission}
 use Rattle.schedule_laws.proofs.ScheduleHours.{hours_of_mission}

@@ -1,10 +1,10 @@
 -- What is counted over a schedule: the pay of three modes, sums of what is counted, and constants.
-use Rattle.std.proofs.Common.{◌≡◌, ℕ, zero, suc, true, false, List, [], ◌∷◌, refl, sym, ap, ◌∙◌}
+use Rattle.std.proofs.Common.{◌≡◌, ℕ, suc, true, false, List, [], ◌∷◌, refl, sym, ap, ◌∙◌}
 use Rattle.std.specs.Prelude.{if◌then◌else◌, ◌+◌}
 use mathlib.Core.Path.{fun_ext}
 use Rattle.sil_fraction.specs.Fraction.{Fraction, ◌+ℚ◌, ◌*ℚ◌, whole}
-use Rattle.sil_fraction.proofs.Laws.{add_comm, add_assoc, mul-add, zero-add, whole-add, one-mul, mul_comm}
-use Rattle.sil_fraction.proofs.Sums.{add-zero, add_swap, add-mul, mul-zero, mul-one, trivial}
+use Rattle.sil_fraction.proofs.Laws.{add_comm, add_assoc, mul-add, zero-add, whole-add, one-mul}
+use Rattle.sil_fraction.proofs.Sums.{add-zero, add_swap, add-mul, trivial}
 use Rattle.sil_model.specs.Series.{Values}
 use Rattle.sil_model.specs.Calendar.{ChannelTest}
 use Rattle.sil_model.specs.Pay.{Item, Mode}
@@ -13,7 +13,7 @@ use Rattle.sil_model.specs.declared.parts.Subsystem.{Subsystem}
 use Rattle.model_laws.specs.Hours.{hours_of, AreShort, AreChances}
 use Rattle.model_laws.specs.Polynomial.{IsLinear}
 use Rattle.model_laws.specs.Hours.AreShort.{none, beat, tests}
-use Rattle.model_laws.proofs.Beats.{mean-adds, mean-constant, beat-linear, beat-constant}
+use Rattle.model_laws.proofs.Beats.{mean-adds, mean-constant}
 use Rattle.lumped_laws.specs.ValueLists.{tick_list, beat_list, mean_list, test_list, passing_list}
 use Rattle.lumped_laws.specs.PayList.{payoff_list, last_list, pay_list}
 use Rattle.lumped_laws.specs.LinearLists.{LinearLaw, KeepsConstants}

@@ -1,10 +1,9 @@
 -- The figures of a loop lie between the ends that the dwell of its mission gives.
-use Rattle.std.proofs.Common.{◌≡◌, ℕ, zero, suc, ◌+◌, ◌-◌, ◌*◌, ◌/◌, ◌^◌, ◌<◌, ◌≤◌, List, length, get_or, sum, refl, sym, ap, ◌∙◌, arith}
+use Rattle.std.proofs.Common.{◌≡◌, ℕ, suc, ◌+◌, ◌-◌, ◌*◌, ◌/◌, ◌^◌, ◌<◌, ◌≤◌, List, length, get_or, sum, sym, ap, ◌∙◌, arith}
 use mathlib.Core.Path.{fun_ext}
 use Rattle.std.proofs.Math.Nat.{div-mul-le_self}
-use Rattle.sil_fraction.specs.Fraction.{Fraction, ◌+ℚ◌, ◌*ℚ◌, ◌-ℚ◌, ◌≤ℚ◌, whole, ratio, inverse}
-use Rattle.sil_fraction.specs.Sum.{total_below}
-use Rattle.sil_fraction.proofs.Laws.{add_comm, add_assoc, mul_comm, mul_assoc, mul-add, one-mul, le_refl, le_trans, le_of_same, mul-le-left, mul-le-right, whole-add, whole-mul, whole-le, sub-add, add-le-cancel_right, mul-inverse}
+use Rattle.sil_fraction.specs.Fraction.{Fraction, ◌+ℚ◌, ◌*ℚ◌, ◌≤ℚ◌, whole, ratio, inverse}
+use Rattle.sil_fraction.proofs.Laws.{add_comm, add_assoc, mul_comm, mul_assoc, mul-add, le_refl, le_trans, le_of_same, mul-le-right, whole-add, whole-mul, whole-le, sub-add, add-le-cancel_right, mul-inverse}
 use Rattle.sil_fraction.proofs.Sums.{add-le-add, add-mul, add_swap, mul-one, mul-below, below-le, whole-positive, le_from_scaled, divided}
 use Rattle.sil_model.specs.Series.{Values}
 use Rattle.sil_model.specs.Calendar.{ceiling, test_hours_of}

@@ -6,3 +6,6 @@ pub mod Ends
 pub mod UnderWay
 pub mod Losses
 pub mod Widths
+pub mod Arrived
+pub mod PhasePays
+pub mod PhaseFigures

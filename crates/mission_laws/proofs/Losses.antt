@@ -1,15 +1,15 @@
 -- What is lost phase by phase and test hour by test hour, and what is lost in all.
-use Rattle.std.proofs.Common.{◌≡◌, ℕ, suc, ◌+◌, ◌-◌, ◌*◌, ◌/◌, ◌^◌, ◌<◌, ◌≤◌, List, length, sum, get_or, take, refl, sym, ap, ◌∙◌, arith}
+use Rattle.std.proofs.Common.{◌≡◌, ℕ, suc, ◌+◌, ◌*◌, ◌^◌, ◌<◌, ◌≤◌, List, length, sum, get_or, refl, ap, ◌∙◌, arith}
 use Rattle.std.specs.Prelude.{sum_by}
 use Rattle.std.proofs.lemmas.List.Sums.{sum_by_more}
 use Rattle.std.proofs.Math.Seq.{take-length}
 use Rattle.std.proofs.lemmas.List.{take_all}
-use Rattle.std.proofs.Math.Nat.{mul-le-mul_left, mul-le-mul_right, le_of_mul-le-mul_right}
-use Rattle.sil_model.specs.Budget.{beat_loss_of, test_loss_of, group_tests_in, group_tests_of, budget_of}
+use Rattle.std.proofs.Math.Nat.{mul-le-mul_left}
+use Rattle.sil_model.specs.Budget.{beat_loss_of, test_loss_of, group_tests_in, group_tests_of}
 use Rattle.sil_model.specs.Calendar.{Phase, phases_of, test_hours_of, beats_of}
-use Rattle.sil_model.specs.LoopValue.{LoopValue, IsValid}
+use Rattle.sil_model.specs.LoopValue.{LoopValue}
 use Rattle.sil_model.specs.Sizes.{states_of, all_beats_of}
-use Rattle.test_calendar.proofs.PhasesOfLoop.{length-phases_of, phases_of_fill}
+use Rattle.schedule_laws.proofs.PhasesOfLoop.{length-phases_of, phases_of_fill}
 use Rattle.mission_laws.specs.Losses.{hours_until, beats_until, group_tests_until, lost_until, lost_in_all, HasLost, HasLostInAll, LosesInPhase, LosesAtTests}
 
 module _ (l : LoopValue) where

@@ -1,10 +1,8 @@
 -- A vector that is pushed through a mission, phase by phase and tests by tests, pays no more than what was expected.
-use Rattle.std.proofs.Common.{◌≡◌, ℕ, ◌+◌, ◌^◌, length, get_or, List, [], ◌∷◌, ◌++◌, true, refl, sym, ap, ◌∙◌}
-use mathlib.Core.Path.{fun_ext}
+use Rattle.std.proofs.Common.{◌≡◌, ℕ, ◌+◌, ◌^◌, List, [], ◌∷◌, ◌++◌, true, sym, ap, ◌∙◌}
 use Rattle.sil_fraction.specs.Fraction.{Fraction, ◌+ℚ◌, ◌*ℚ◌, ◌≤ℚ◌, whole, ratio}
-use Rattle.sil_fraction.specs.Sum.{total_below}
-use Rattle.sil_fraction.proofs.Laws.{add_comm, add_assoc, mul-add, front, le_refl, le_trans, le_of_same, mul-le-left, whole-add, zero-add}
-use Rattle.sil_fraction.proofs.Sums.{add-le-add, add_swap, below-add, mul-below, le-add_right, add-zero}
+use Rattle.sil_fraction.proofs.Laws.{add_comm, add_assoc, le_refl, le_trans, le_of_same, whole-add, zero-add}
+use Rattle.sil_fraction.proofs.Sums.{add-le-add, le-add_right}
 use Rattle.sil_model.specs.Series.{Values}
 use Rattle.sil_model.specs.Calendar.{ChannelTest, beats_of}
 use Rattle.sil_model.specs.Pay.{Item, beats_items}

@@ -1,6 +1,5 @@
 -- What the beats of a phase count: what comes after them, and where they count the mean over the phase times its hours.
 use Rattle.std.proofs.Common.{◌≡◌, ℕ, zero, suc, true, false, List, ◌++◌, replicate, refl, sym, ap, ◌∙◌}
-use Rattle.std.specs.Prelude.{Bool, if◌then◌else◌}
 use mathlib.Core.Path.{fun_ext}
 use Rattle.sil_fraction.specs.Fraction.{Fraction, ◌+ℚ◌, ◌*ℚ◌, whole, ratio, inverse}
 use Rattle.sil_fraction.proofs.Laws.{add_comm, add_assoc, mul_comm, mul_assoc, mul-add}

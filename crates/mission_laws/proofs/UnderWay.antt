@@ -1,22 +1,18 @@
 -- A mission from its start over its phases and tests to its end.
-use Rattle.std.proofs.Common.{◌≡◌, ℕ, zero, suc, ◌+◌, ◌-◌, ◌*◌, ◌^◌, ◌<◌, ◌≤◌, true, List, [], ◌∷◌, ◌++◌, length, get_or, drop, append-nil, refl, sym, ap, subst, ◌∙◌, arith}
-use Rattle.std.specs.Prelude.{slice_index_or}
-use Rattle.sil_fraction.specs.Fraction.{Fraction, ◌+ℚ◌, ◌*ℚ◌, ◌≤ℚ◌, whole, ratio}
-use Rattle.sil_fraction.proofs.Laws.{le_refl, le_trans, le_of_same, zero-le, whole-add, zero-add}
+use Rattle.std.proofs.Common.{◌≡◌, ℕ, zero, suc, ◌+◌, ◌^◌, ◌<◌, ◌≤◌, true, List, [], ◌∷◌, ◌++◌, length, get_or, drop, append-nil, refl, sym, subst, arith}
+use Rattle.sil_fraction.specs.Fraction.{Fraction, ◌+ℚ◌, ◌*ℚ◌, ◌≤ℚ◌, whole}
+use Rattle.sil_fraction.proofs.Laws.{le_of_same, zero-le}
 use Rattle.sil_fraction.proofs.Sums.{add-zero}
 use Rattle.sil_model.specs.Series.{Values}
-use Rattle.sil_model.specs.Calendar.{ChannelTest, Phase, phases_of, test_hours_of, tests_at, beats_of}
+use Rattle.sil_model.specs.Calendar.{ChannelTest, Phase, phases_of, tests_at, beats_of}
 use Rattle.sil_model.specs.LoopValue.{LoopValue}
-use Rattle.sil_model.specs.Pay.{Item, items_from, beats_items, schedule_of}
-use Rattle.sil_model.specs.Pay.Item.{Beat, Tests}
-use Rattle.sil_model.specs.Pay.Mode.{Down, Up, Entry}
-use Rattle.sil_model.specs.declared.parts.Subsystem.{Subsystem}
-use Rattle.lumped_laws.specs.ValueLists.{phase_list, phase_mean_list, test_list, passing}
-use Rattle.lumped_laws.specs.PayList.{payoff_list, pay_list}
+use Rattle.sil_model.specs.Pay.{Item, beats_items, schedule_of}
+use Rattle.sil_model.specs.Pay.Item.{Tests}
+use Rattle.sil_model.specs.Pay.Mode.{Down, Up}
+use Rattle.lumped_laws.specs.PayList.{payoff_list}
 use Rattle.vector_laws.specs.Vectors.{weigh}
 use Rattle.mission_laws.specs.Counted.{counted_list}
 use Rattle.mission_laws.specs.Paid.{HasPaid}
-use Rattle.mission_laws.specs.Calm.{calm_list, staying}
 use Rattle.mission_laws.specs.UnderWay.{items_after, IsUnderWay, PassesPhase, PassesTests}
 use Rattle.mission_laws.specs.Missions.{HasCounted}
 use Rattle.mission_laws.proofs.Paid.{paid-first, paid-phase, paid-tests, paid-all}

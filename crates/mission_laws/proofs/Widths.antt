@@ -1,5 +1,5 @@
 -- How wide the ends are, by what was lost.
-use Rattle.std.proofs.Common.{◌≡◌, ℕ, suc, ◌+◌, ◌-◌, ◌*◌, ◌/◌, ◌^◌, ◌<◌, ◌≤◌, List, length, sum, get_or, refl, sym, ap, ◌∙◌, arith}
+use Rattle.std.proofs.Common.{◌≡◌, ℕ, ◌+◌, ◌-◌, ◌*◌, ◌/◌, ◌^◌, ◌<◌, ◌≤◌, List, length, sum, ap, ◌∙◌, arith}
 use Rattle.std.proofs.Math.Nat.{mul-le-mul_left, mul-le-mul_right, le_of_mul-le-mul_left, lt_of_mul-lt-mul_right, div-mul-le_self, lt-div-mul-add}
 use Rattle.sil_model.specs.Budget.{budget_of, pfd_width_of, pfh_width_of, failure_rate_of, test_hour_count_of}
 use Rattle.sil_model.specs.Calendar.{ceiling, phases_of, test_hours_of}

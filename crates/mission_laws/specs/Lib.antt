@@ -4,3 +4,5 @@ pub mod Calm
 pub mod Missions
 pub mod UnderWay
 pub mod Losses
+pub mod Arrived
+pub mod PhaseLaws

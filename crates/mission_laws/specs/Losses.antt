@@ -1,5 +1,5 @@
 -- What a mission may have lost up to a phase, in units of 2^-48.
-use Rattle.std.specs.Prelude.{◌≡◌, ℕ, ◌+◌, ◌*◌, ◌^◌, ◌≤◌, List, take, length, sum, sum_by}
+use Rattle.std.specs.Prelude.{ℕ, ◌+◌, ◌*◌, ◌^◌, ◌≤◌, List, take, length, sum, sum_by}
 use Rattle.sil_model.specs.Budget.{beat_loss_of, test_loss_of, group_tests_in, group_tests_of}
 use Rattle.sil_model.specs.Calendar.{phases_of, test_hours_of, beats_of}
 use Rattle.sil_model.specs.LoopValue.{LoopValue}

@@ -1,7 +1,7 @@
 -- What the dwell of a whole mission says of its figures.
-use Rattle.std.specs.Prelude.{◌≡◌, ℕ, ◌+◌, ◌-◌, ◌*◌, ◌/◌, ◌^◌, ◌<◌, ◌≤◌, List, length, slice_index, sum}
-use Rattle.sil_fraction.specs.Fraction.{Fraction, ◌+ℚ◌, ◌*ℚ◌, ◌≤ℚ◌, whole, ratio}
-use Rattle.sil_model.specs.Calendar.{ceiling, test_hours_of}
+use Rattle.std.specs.Prelude.{◌≡◌, ℕ, ◌+◌, ◌-◌, ◌*◌, ◌/◌, ◌^◌, ◌<◌, List, length, slice_index}
+use Rattle.sil_fraction.specs.Fraction.{Fraction, ◌+ℚ◌, ◌*ℚ◌, ◌≤ℚ◌, whole}
+use Rattle.sil_model.specs.Calendar.{ceiling}
 use Rattle.sil_model.specs.LoopValue.{LoopValue}
 use Rattle.sil_model.specs.Pay.{schedule_of}
 use Rattle.sil_model.specs.Pay.Mode.{Down, Up, Entry}

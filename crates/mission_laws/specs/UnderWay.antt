@@ -1,8 +1,8 @@
 -- A mission that is under way: what was counted up to a phase, against what was expected from the start.
-use Rattle.std.specs.Prelude.{◌≡◌, ℕ, suc, ◌+◌, ◌*◌, ◌^◌, ◌≤◌, true, List, drop, slice_index_or}
-use Rattle.sil_fraction.specs.Fraction.{Fraction, ◌+ℚ◌, ◌*ℚ◌, ◌-ℚ◌, ◌≤ℚ◌, whole, ratio}
+use Rattle.std.specs.Prelude.{ℕ, ◌≤◌, true, List, drop}
+use Rattle.sil_fraction.specs.Fraction.{Fraction, ◌+ℚ◌, ◌*ℚ◌, ◌≤ℚ◌, whole, ratio}
 use Rattle.sil_model.specs.Series.{Values}
-use Rattle.sil_model.specs.Calendar.{ChannelTest, phases_of, beats_of}
+use Rattle.sil_model.specs.Calendar.{ChannelTest, phases_of}
 use Rattle.sil_model.specs.LoopValue.{LoopValue}
 use Rattle.sil_model.specs.Pay.{Item, items_from, schedule_of}
 use Rattle.sil_model.specs.Pay.Mode.{Down, Up, Entry}

@@ -8,8 +8,8 @@ use Rattle.lumped_laws.specs.ValueLists.{beat_list, mean_list}
 use Rattle.vector_laws.specs.Vectors.{weigh}
 use Rattle.product_chain.specs.Kept.{ChainValue}
 use Rattle.uniformise.specs.Beat.{hours_of_beat, vector_loss, dwell_loss}
-use Rattle.dense_power.specs.Matrix.{Matrix}
-use Rattle.dense_power.specs.Rows.{IsBelowOperator, EachRowAtMost, EachRowNear}
+use Rattle.vector_laws.specs.Matrix.{Matrix}
+use Rattle.vector_laws.specs.Rows.{IsBelowOperator, EachRowAtMost, EachRowNear}
 use Rattle.dense_power.specs.Powers.{end_lack_of, dwell_lack_of}
 
 module _ (c : ChainValue) (order : ℕ) where

@@ -1,6 +1,6 @@
 -- Matrices with their room, which are those of the phase that they are kept of.
 use Rattle.std.specs.Prelude.{◌≡◌, ◌≤◌, Option, Some, None, vec_len, All}
-use Rattle.dense_power.specs.Matrix.{Matrix}
+use Rattle.vector_laws.specs.Matrix.{Matrix}
 use Rattle.phase_powers.specs.Kept.{PhaseValue}
 use Rattle.phase_powers.specs.Pairs.{IsPhasePair}
 use Rattle.phase_powers.specs.declared.matrices.Matrices.{Matrices}

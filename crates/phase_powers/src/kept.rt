@@ -2,8 +2,8 @@
 
 ghost use Rattle.std.specs.Prelude.{◌≡◌, IsTrue};
 
+use phase_run::Phase;
 use product_chain::Chain;
-use series_weights::Weights;
 use std::marker::Model;
 use std::snapshot::Snapshot;
 
@@ -28,17 +28,17 @@ impl Model for KeptPhase {
 }
 
 impl KeptPhase {
-    /// The phase of a chain, by such weights.
-    pub fn new(chain: &Chain, hours: u64, beats: u64, weights: &Weights) -> KeptPhase
-        requires hours { hours ≡ chain.now.hours }
-        requires beats { beats ≡ chain.now.beats }
-        ensures { result ≡ record { chain = chain.now; order = weights.now } }
+    /// The phase, by its weights.
+    pub fn of(phase: &Phase<'_>) -> KeptPhase
+        requires hours { phase.now.hours ≡ phase.now.chain.now.hours }
+        requires beats { phase.now.beats ≡ phase.now.chain.now.beats }
+        ensures { result ≡ record { chain = phase.now.chain.now; order = phase.now.weights.now } }
     {
         KeptPhase {
-            chain: Snapshot::of(chain),
-            hours,
-            beats,
-            order: weights.order(),
+            chain: Snapshot::of(phase.chain),
+            hours: phase.hours,
+            beats: phase.beats,
+            order: phase.weights.order(),
         }
     }
 

@@ -4,7 +4,7 @@ ghost use Rattle.std.specs.Prelude.{◌≡◌, ℕ, Some, None, ◌+◌, ◌*◌
 ghost use Rattle.sil_model.specs.Sizes.{states_of};
 ghost use Rattle.uniformise.specs.Beat.{beat_products};
 ghost use Rattle.vector_laws.specs.Vectors.{IsMass};
-ghost use Rattle.dense_power.specs.Matrix.{EachEntryAtMost, IsRowProductDown};
+ghost use Rattle.vector_laws.specs.Matrix.{EachEntryAtMost, IsRowProductDown};
 ghost use Rattle.phase_powers.specs.Kept.{IsOfNoOther, IsOfPhase, loop_of};
 ghost use Rattle.phase_powers.specs.Products.{making_products};
 ghost use Rattle.phase_powers.specs.Rooms.{AreMatrices};
@@ -12,8 +12,7 @@ ghost use Rattle.phase_powers.specs.Rooms.{AreMatrices};
 use crate::kept::KeptPhase;
 use crate::rows::make_beat_pair;
 use dense_power::{Dense, power_pair};
-use product_chain::Chain;
-use series_weights::Weights;
+use phase_run::Phase;
 use sil_model::Steps;
 use std::alloc::{AllocError, Global};
 use std::sync::ledger::Ledger;
@@ -31,7 +30,7 @@ pub struct Matrices {
     /// Room for powers.
     pub scratch: Vec<Dense>,
     /// Room for a row.
-    pub row: Vec<u128>,
+    pub row: Vec<u64>,
 }
 
 impl Matrices {
@@ -49,7 +48,7 @@ impl Matrices {
         for _ in 0..4u8 {
             scratch.push(Dense::new(alloc, size)?)?;
         }
-        let row = vec![in alloc; 0u128; size]?;
+        let row = vec![in alloc; 0u64; size]?;
         Ok(Matrices {
             kept: None,
             end,
@@ -60,32 +59,28 @@ impl Matrices {
     }
 
     /// Makes them those of a phase, unless they are these already. `room` is room for a row.
-    #[allow(clippy::too_many_arguments)]
     pub fn make_ready<L: Ledger>(
         &mut self,
         work: &mut Workspace,
-        chain: &Chain,
-        weights: &Weights,
-        beats: u64,
-        hours: u64,
+        phase: &Phase<'_>,
         room: &mut [u128],
         steps: &mut Steps<L>,
     )
         requires sound { AreMatrices self.old }
-        requires size { vec_len self.old.row ≡ states_of chain.now.of.subsystems }
-        requires same { IsOfNoOther (loop_of self.old.kept) chain.now.of }
-        requires beats { beats ≡ chain.now.beats }
-        requires hours { hours ≡ chain.now.hours }
-        requires work { work.old ≡ states_of chain.now.of.subsystems }
-        requires room { length room.old ≡ states_of chain.now.of.subsystems }
+        requires size { vec_len self.old.row ≡ states_of phase.now.chain.now.of.subsystems }
+        requires same { IsOfNoOther (loop_of self.old.kept) phase.now.chain.now.of }
+        requires beats { phase.now.beats ≡ phase.now.chain.now.beats }
+        requires hours { phase.now.hours ≡ phase.now.chain.now.hours }
+        requires work { work.old ≡ states_of phase.now.chain.now.of.subsystems }
+        requires room { length room.old ≡ states_of phase.now.chain.now.of.subsystems }
         ensures sound { AreMatrices self.new }
         ensures size { vec_len self.new.row ≡ vec_len self.old.row }
-        ensures kept { self.new.kept ≡ Some (record { chain = chain.now; order = weights.now }) }
+        ensures kept { self.new.kept ≡ Some (record { chain = phase.now.chain.now; order = phase.now.weights.now }) }
         ensures work { work.new ≡ work.old }
-        ensures steps { (digits : ℕ) → beats < 2 ^ digits → steps.new ≤ steps.old + making_products chain.now.of.subsystems weights.now digits }
+        ensures steps { (digits : ℕ) → phase.now.beats < 2 ^ digits → steps.new ≤ steps.old + making_products phase.now.chain.now.of.subsystems phase.now.weights.now digits }
     {
-        if !self.are_of(hours, beats, weights.order()) {
-            self.make(work, chain, weights, beats, hours, room, steps);
+        if !self.are_of(phase.hours, phase.beats, phase.weights.order()) {
+            self.make(work, phase, room, steps);
         }
     }
 
@@ -100,48 +95,43 @@ impl Matrices {
     }
 
     /// Makes them those of a phase.
-    #[allow(clippy::too_many_arguments)]
     fn make<L: Ledger>(
         &mut self,
         work: &mut Workspace,
-        chain: &Chain,
-        weights: &Weights,
-        beats: u64,
-        hours: u64,
+        phase: &Phase<'_>,
         room: &mut [u128],
         steps: &mut Steps<L>,
     )
         requires sound { AreMatrices self.old }
-        requires size { vec_len self.old.row ≡ states_of chain.now.of.subsystems }
-        requires beats { beats ≡ chain.now.beats }
-        requires hours { hours ≡ chain.now.hours }
-        requires work { work.old ≡ states_of chain.now.of.subsystems }
-        requires room { length room.old ≡ states_of chain.now.of.subsystems }
+        requires size { vec_len self.old.row ≡ states_of phase.now.chain.now.of.subsystems }
+        requires beats { phase.now.beats ≡ phase.now.chain.now.beats }
+        requires hours { phase.now.hours ≡ phase.now.chain.now.hours }
+        requires work { work.old ≡ states_of phase.now.chain.now.of.subsystems }
+        requires room { length room.old ≡ states_of phase.now.chain.now.of.subsystems }
         ensures sound { AreMatrices self.new }
         ensures size { vec_len self.new.row ≡ vec_len self.old.row }
-        ensures kept { self.new.kept ≡ Some (record { chain = chain.now; order = weights.now }) }
+        ensures kept { self.new.kept ≡ Some (record { chain = phase.now.chain.now; order = phase.now.weights.now }) }
         ensures work { work.new ≡ work.old }
-        ensures steps { (digits : ℕ) → beats < 2 ^ digits → steps.new ≤ steps.old + making_products chain.now.of.subsystems weights.now digits }
+        ensures steps { (digits : ℕ) → phase.now.beats < 2 ^ digits → steps.new ≤ steps.old + making_products phase.now.chain.now.of.subsystems phase.now.weights.now digits }
     {
-        prove!(beats == chain.beats());
+        prove!(phase.beats == phase.chain.beats());
         make_beat_pair(
             &mut self.end,
             &mut self.dwell,
             self.row.as_mut_slice(),
             room,
             work,
-            chain,
-            weights,
+            phase,
             steps,
         );
         power_pair(
             &mut self.end,
             &mut self.dwell,
             self.scratch.as_mut_slice(),
-            beats,
+            phase.beats,
             steps,
         );
-        self.kept = Some(KeptPhase::new(chain, hours, beats, weights));
+        self.kept = Some(KeptPhase::of(phase));
     }
 }
 
@@ -149,8 +139,8 @@ impl Matrices {
 pub fn pass<L: Ledger>(
     end: &Dense,
     dwell: &Dense,
-    row: &mut [u128],
-    v: &mut [u128],
+    row: &mut [u64],
+    v: &mut [u64],
     dwelt: &mut [u128],
     steps: &mut Steps<L>,
 )
@@ -159,13 +149,41 @@ pub fn pass<L: Ledger>(
     requires v { length v.old ≡ end.now.size }
     requires dwelt { length dwelt.old ≡ end.now.size }
     requires mass { IsMass v.old }
-    requires end_small { EachEntryAtMost end.now (2 ^ 68) }
+    requires end_small { EachEntryAtMost end.now (2 ^ 48) }
     requires dwell_small { EachEntryAtMost dwell.now (2 ^ 68) }
     ensures ends { IsRowProductDown v.old end.now v.new }
     ensures dwells { IsRowProductDown v.old dwell.now dwelt.new }
     ensures steps { steps.new ≡ steps.old + 2 * end.now.size ^ 2 }
 {
-    dwell.row_product_down(v, dwelt, steps);
-    end.row_product_down(v, row, steps);
+    dwell_of(dwell, v, dwelt, steps);
+    end_of(end, v, row, steps);
     v.copy_from_slice(row);
+}
+
+/// Makes `to` the product of a vector and an end matrix.
+fn end_of<L: Ledger>(end: &Dense, v: &[u64], to: &mut [u64], steps: &mut Steps<L>)
+    requires v { length v.now ≡ end.now.size }
+    requires to { length to.old ≡ end.now.size }
+    requires mass { IsMass v.now }
+    requires small { EachEntryAtMost end.now (2 ^ 48) }
+    ensures product { IsRowProductDown v.now end.now to.new }
+    ensures steps { steps.new ≡ steps.old + end.now.size ^ 2 }
+{
+    for j in 0..end.size() {
+        to[j] = end.row_product_down(v, j, steps) as u64;
+    }
+}
+
+/// Makes `to` the product of a vector and a dwell sum.
+fn dwell_of<L: Ledger>(dwell: &Dense, v: &[u64], to: &mut [u128], steps: &mut Steps<L>)
+    requires v { length v.now ≡ dwell.now.size }
+    requires to { length to.old ≡ dwell.now.size }
+    requires mass { IsMass v.now }
+    requires small { EachEntryAtMost dwell.now (2 ^ 68) }
+    ensures product { IsRowProductDown v.now dwell.now to.new }
+    ensures steps { steps.new ≡ steps.old + dwell.now.size ^ 2 }
+{
+    for j in 0..dwell.size() {
+        to[j] = dwell.row_product_down(v, j, steps);
+    }
 }

@@ -9,8 +9,7 @@ ghost use Rattle.phase_powers.specs.Kept.{IsOfNoOther};
 ghost use Rattle.phase_powers.specs.Products.{powered_products};
 
 use crate::matrices::{Matrices, pass};
-use product_chain::Chain;
-use series_weights::Weights;
+use phase_run::Phase;
 use sil_model::Steps;
 use std::alloc::{AllocError, Global};
 use std::marker::Model;
@@ -37,7 +36,7 @@ impl Model for Powers {
 }
 
 impl Powers {
-    /// Room for the powers of a loop of so many states. It refuses for want of memory alone.
+    /// Room for the powers of a loop of so many states. It is refused only where the program is out of memory.
     pub fn new(alloc: Global, size: usize) -> Result<Powers, AllocError>
         requires some { 1 ≤ size }
         requires few { size ≤ 64 }
@@ -49,35 +48,30 @@ impl Powers {
     }
 
     /// Passes all beats of a phase: `dwell` becomes what the vector dwells in them.
-    #[allow(clippy::too_many_arguments)]
     pub(crate) fn pass_beats<L: Ledger>(
         &mut self,
         work: &mut Workspace,
-        chain: &Chain,
-        weights: &Weights,
-        beats: u64,
-        hours: u64,
-        v: &mut [u128],
+        phase: &Phase<'_>,
+        v: &mut [u64],
         dwell: &mut [u128],
         steps: &mut Steps<L>,
     )
-        requires size { self.old.size ≡ states_of chain.now.of.subsystems }
-        requires same { IsOfNoOther self.old.of chain.now.of }
-        requires beats { beats ≡ chain.now.beats }
-        requires hours { hours ≡ chain.now.hours }
-        requires work { work.old ≡ states_of chain.now.of.subsystems }
-        requires v { length v.old ≡ states_of chain.now.of.subsystems }
-        requires dwell { length dwell.old ≡ states_of chain.now.of.subsystems }
+        requires size { self.old.size ≡ states_of phase.now.chain.now.of.subsystems }
+        requires same { IsOfNoOther self.old.of phase.now.chain.now.of }
+        requires beats { phase.now.beats ≡ phase.now.chain.now.beats }
+        requires hours { phase.now.hours ≡ phase.now.chain.now.hours }
+        requires work { work.old ≡ states_of phase.now.chain.now.of.subsystems }
+        requires v { length v.old ≡ states_of phase.now.chain.now.of.subsystems }
+        requires dwell { length dwell.old ≡ states_of phase.now.chain.now.of.subsystems }
         requires mass { IsMass v.old }
-        ensures powers { self.new ≡ record { size = self.old.size; of = Some chain.now.of } }
+        ensures powers { self.new ≡ record { size = self.old.size; of = Some phase.now.chain.now.of } }
         ensures work { work.new ≡ work.old }
-        ensures passes { Passes chain.now weights.now (beat_loss_of chain.now.of.subsystems weights.now) beats v.old v.new (replicate (states_of chain.now.of.subsystems) 0) dwell.new }
-        ensures steps { (digits : ℕ) → beats < 2 ^ digits → steps.new ≤ steps.old + powered_products chain.now.of.subsystems weights.now digits }
+        ensures passes { Passes phase.now.chain.now phase.now.weights.now (beat_loss_of phase.now.chain.now.of.subsystems phase.now.weights.now) phase.now.beats v.old v.new (replicate (states_of phase.now.chain.now.of.subsystems) 0) dwell.new }
+        ensures steps { (digits : ℕ) → phase.now.beats < 2 ^ digits → steps.new ≤ steps.old + powered_products phase.now.chain.now.of.subsystems phase.now.weights.now digits }
     {
-        prove!(beats == chain.beats());
-        prove!(weights.order() >= 16);
-        self.matrices
-            .make_ready(work, chain, weights, beats, hours, dwell, steps);
+        prove!(phase.beats == phase.chain.beats());
+        prove!(phase.weights.order() >= 16);
+        self.matrices.make_ready(work, phase, dwell, steps);
         pass(
             &self.matrices.end,
             &self.matrices.dwell,

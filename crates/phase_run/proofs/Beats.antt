@@ -1,5 +1,5 @@
 -- The beats of a phase, one after another.
-use Rattle.std.proofs.Common.{◌≡◌, ℕ, ◌+◌, ◌<◌, ◌≤◌, List, length, slice_index, refl}
+use Rattle.std.proofs.Common.{◌≡◌, ℕ, ◌<◌, ◌≤◌, List, length, slice_index, refl}
 use Rattle.sil_fraction.specs.Fraction.{◌+ℚ◌, ◌≤ℚ◌}
 use Rattle.sil_fraction.proofs.Laws.{zero-add}
 use Rattle.sil_model.specs.Series.{Values}
@@ -9,7 +9,7 @@ use Rattle.lumped_laws.proofs.LinearLists.{linear_laws}
 use Rattle.product_chain.specs.Kept.{ChainValue}
 use Rattle.vector_laws.specs.Vectors.{weigh}
 use Rattle.vector_laws.proofs.Weighing.{weigh-none}
-use Rattle.block_laws.specs.Block.{IsAfter, IsDwelt}
+use Rattle.vector_laws.specs.Block.{IsAfter, IsDwelt}
 use Rattle.uniformise.specs.Beat.{hours_of_beat, IsStep}
 
 -- after all of them

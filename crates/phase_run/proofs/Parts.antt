@@ -1,5 +1,5 @@
 -- A part of a phase whose dwell began with nothing, added to the dwell of the part before it.
-use Rattle.std.proofs.Common.{◌≡◌, ℕ, ◌+◌, ◌-◌, ◌*◌, ◌<◌, ◌≤◌, List, length, sum, slice_index, ap, ◌∙◌, arith}
+use Rattle.std.proofs.Common.{◌≡◌, ℕ, ◌+◌, ◌*◌, ◌<◌, List, length, sum, slice_index, ap, ◌∙◌, arith}
 use Rattle.sil_fraction.specs.Fraction.{Fraction, ◌+ℚ◌}
 use Rattle.sil_fraction.proofs.Laws.{zero-add, le_refl, le_trans, le_of_same}
 use Rattle.sil_fraction.proofs.Sums.{add-le-add}

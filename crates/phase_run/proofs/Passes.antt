@@ -1,5 +1,5 @@
 -- Beats after beats: what they pass, one by one and in blocks.
-use Rattle.std.proofs.Common.{◌≡◌, ℕ, suc, ◌+◌, ◌-◌, ◌*◌, ◌/◌, ◌%◌, ◌^◌, ◌<◌, ◌≤◌, List, length, sum, slice_index, refl, ap, ◌∙◌, arith}
+use Rattle.std.proofs.Common.{◌≡◌, ℕ, ◌+◌, ◌-◌, ◌*◌, ◌/◌, ◌%◌, ◌^◌, ◌<◌, ◌≤◌, List, length, sum, slice_index, refl, ap, ◌∙◌, arith}
 use Rattle.std.proofs.Math.Nat.{mul-le-mul_left, mul-le-mul_right, pow-suc, pow-zero}
 use Rattle.std.proofs.lemmas.Nat.{pow_pos, div-add-mod'}
 use mathlib.Core.Path.{fun_ext}
@@ -11,8 +11,8 @@ use Rattle.sil_model.specs.Sizes.{states_of}
 use Rattle.sil_model.specs.declared.parts.Subsystem.{Subsystem}
 use Rattle.lumped_laws.specs.ValueLists.{beat_list, mean_list}
 use Rattle.vector_laws.specs.Vectors.{weigh}
-use Rattle.block_laws.specs.Block.{IsAfter, IsDwelt}
-use Rattle.block_laws.proofs.Phases.{after_none, dwelt_none, after_more, dwelt_more}
+use Rattle.vector_laws.specs.Block.{IsAfter, IsDwelt}
+use Rattle.vector_laws.proofs.Phases.{after_none, dwelt_none, after_more, dwelt_more}
 use Rattle.beat_ladder.specs.Losses.{block_loss, block_dwell_loss, block_products}
 use Rattle.product_chain.specs.Kept.{ChainValue}
 use Rattle.uniformise.specs.Beat.{hours_of_beat, IsStep, tick_products, vector_loss, dwell_loss, beat_products}

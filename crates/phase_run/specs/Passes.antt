@@ -3,7 +3,7 @@ use Rattle.std.specs.Prelude.{◌≡◌, ℕ, ◌+◌, ◌*◌, ◌^◌, ◌<◌
 use Rattle.sil_model.specs.Series.{Values}
 use Rattle.sil_model.specs.declared.parts.Subsystem.{Subsystem}
 use Rattle.sil_model.specs.Sizes.{states_of}
-use Rattle.block_laws.specs.Block.{IsAfter, IsDwelt}
+use Rattle.vector_laws.specs.Block.{IsAfter, IsDwelt}
 use Rattle.product_chain.specs.Kept.{ChainValue}
 use Rattle.uniformise.specs.Beat.{IsStep, tick_loss}
 

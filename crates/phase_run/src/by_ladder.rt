@@ -1,73 +1,48 @@
 //! The beats of a phase by a ladder, over places that hold mass.
 
-ghost use Rattle.std.specs.Prelude.{◌≡◌, ℕ, ◌+◌, ◌*◌, ◌^◌, ◌<◌, ◌≤◌, length, sum, slice_index, All};
-ghost use Rattle.sil_fraction.specs.Fraction.{◌+ℚ◌, ◌*ℚ◌, ◌≤ℚ◌, whole, ratio};
-ghost use Rattle.sil_model.specs.Series.{Values};
+ghost use Rattle.std.specs.Prelude.{◌≡◌, ◌+◌, ◌*◌, ◌^◌, ◌≤◌, length, All};
 ghost use Rattle.sil_model.specs.Sizes.{states_of};
-ghost use Rattle.sil_model.specs.Budget.{beat_loss_of};
-ghost use Rattle.vector_laws.specs.Vectors.{weigh, IsMass};
-ghost use Rattle.lumped_laws.specs.ValueLists.{phase_list, phase_mean_list};
+ghost use Rattle.vector_laws.specs.Vectors.{IsMass};
 ghost use Rattle.uniformise.specs.Beat.{beat_products};
+ghost use Rattle.phase_run.specs.Runs.{RunsPhase};
 
-use crate::places::PlaceRoom;
+use crate::phase::Phase;
+use crate::places::LadderRoom;
 use crate::{pass_beats, settle};
-use beat_ladder::Ladder;
-use product_chain::Chain;
-use series_weights::Weights;
 use sil_model::Steps;
 use std::sync::ledger::Ledger;
 use uniformise::Workspace;
 
-/// Runs the beats of a phase of so many hours by the rungs of a ladder, over places that come to hold enough or all that the
-/// vector reaches; where the ladder has no rung, one by one. `v` becomes lower bounds of the vector at its end, `mean` lower
-/// bounds of its mean over the phase, and `dwell_hours` grows by lower bounds of hours times that mean. All are in units of
-/// 2^-48.
-#[allow(clippy::too_many_arguments)]
+/// Runs the beats of a phase by the rungs of a ladder, over places that come to hold enough or all that the vector reaches;
+/// where the ladder has no rung, one by one. `v` becomes lower bounds of the vector at its end, `mean` lower bounds of its mean
+/// over the phase, and `dwell_hours` grows by lower bounds of hours times that mean. All are in units of 2^-48.
 pub fn run_phase_by_ladder<L: Ledger>(
-    ladder: &Ladder,
-    places: &mut PlaceRoom,
+    room: &mut LadderRoom,
     work: &mut Workspace,
-    chain: &Chain,
-    weights: &Weights,
-    beats: u64,
-    hours: u64,
-    v: &mut [u128],
+    phase: &Phase<'_>,
+    v: &mut [u64],
     mean: &mut [u128],
     dwell_hours: &mut [u128],
     steps: &mut Steps<L>,
 )
-    requires beats { beats ≡ chain.now.beats }
-    requires hours { hours ≡ chain.now.hours }
-    requires places { places.old ≡ chain.now.of }
-    requires work { work.old ≡ states_of chain.now.of.subsystems }
-    requires v { length v.old ≡ states_of chain.now.of.subsystems }
-    requires mean { length mean.old ≡ states_of chain.now.of.subsystems }
-    requires dwell { length dwell_hours.old ≡ states_of chain.now.of.subsystems }
+    requires beats { phase.now.beats ≡ phase.now.chain.now.beats }
+    requires hours { phase.now.hours ≡ phase.now.chain.now.hours }
+    requires places { room.old ≡ phase.now.chain.now.of }
+    requires work { work.old ≡ states_of phase.now.chain.now.of.subsystems }
+    requires v { length v.old ≡ states_of phase.now.chain.now.of.subsystems }
+    requires mean { length mean.old ≡ states_of phase.now.chain.now.of.subsystems }
+    requires dwell { length dwell_hours.old ≡ states_of phase.now.chain.now.of.subsystems }
     requires mass { IsMass v.old }
-    requires room { All (λ x. x + hours * 2 ^ 48 ≤ 350_400 * 2 ^ 48) dwell_hours.old }
-    ensures places { places.new ≡ places.old }
+    requires room { All (λ x. x + phase.now.hours * 2 ^ 48 ≤ 350_400 * 2 ^ 48) dwell_hours.old }
+    ensures places { room.new ≡ room.old }
     ensures work { work.new ≡ work.old }
-
-    // by every value list, at every order from that of the weights on
-    ensures ends { (N : ℕ) → weights.now ≤ N → (f : Values ℕ) → weigh v.new f ≤ℚ weigh v.old (phase_list chain.now.of.subsystems N (ratio hours beats) beats f) }
-    ensures means { (N : ℕ) → weights.now ≤ N → (f : Values ℕ) → weigh mean.new f ≤ℚ weigh v.old (phase_mean_list chain.now.of.subsystems N (ratio hours beats) beats f) }
-    ensures dwells { (N : ℕ) → weights.now ≤ N → (f : Values ℕ) → weigh dwell_hours.new f ≤ℚ weigh dwell_hours.old f +ℚ whole hours *ℚ weigh v.old (phase_mean_list chain.now.of.subsystems N (ratio hours beats) beats f) }
-
-    ensures kept { sum v.new ≤ sum v.old }
-    ensures mean_kept { sum mean.new ≤ sum v.old }
-    ensures dwell_kept { sum dwell_hours.new ≤ sum dwell_hours.old + hours * sum v.old }
-    ensures grows { (k : ℕ) → k < length dwell_hours.old → (slice_index dwell_hours.old k ≤ slice_index dwell_hours.new k) × (slice_index dwell_hours.new k ≤ slice_index dwell_hours.old k + hours * 2 ^ 48) }
-
-    ensures lack { sum v.old ≤ sum v.new + beats * beat_loss_of chain.now.of.subsystems weights.now }
-    ensures mean_lack { sum v.old ≤ sum mean.new + beats * beat_loss_of chain.now.of.subsystems weights.now + states_of chain.now.of.subsystems }
-    ensures dwell_lack { sum dwell_hours.old + hours * sum v.old ≤ sum dwell_hours.new + hours * (beats * beat_loss_of chain.now.of.subsystems weights.now) + states_of chain.now.of.subsystems }
-
-    ensures steps { steps.new ≤ steps.old + beats * beat_products chain.now.of.subsystems weights.now }
+    ensures runs { RunsPhase phase.now.chain.now.of.subsystems phase.now.weights.now phase.now.hours phase.now.beats v.old v.new mean.new dwell_hours.old dwell_hours.new }
+    ensures steps { steps.new ≤ steps.old + phase.now.beats * beat_products phase.now.chain.now.of.subsystems phase.now.weights.now }
 {
-    prove!(beats == chain.beats());
-    prove!(weights.order() >= 16);
+    prove!(phase.beats == phase.chain.beats());
+    prove!(phase.weights.order() >= 16);
     mean.fill(0);
-    let left = places.pass_blocks(ladder, chain, beats, v, mean, steps);
-    pass_beats(work, chain, weights, left, v, mean, steps);
-    settle(mean, beats, hours, dwell_hours);
+    let left = room.pass_blocks(phase.chain, phase.beats, v, mean, steps);
+    pass_beats(work, phase.chain, phase.weights, left, v, mean, steps);
+    settle(mean, phase.beats, phase.hours, dwell_hours);
 }

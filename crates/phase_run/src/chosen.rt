@@ -6,13 +6,16 @@ ghost use Rattle.sil_model.specs.Sizes.{states_of};
 ghost use Rattle.vector_laws.specs.Vectors.{IsMass};
 ghost use Rattle.uniformise.specs.Beat.{beat_products};
 ghost use Rattle.place_chain.specs.Sweeps.{choice_products};
+ghost use Rattle.phase_run.specs.Rooms.{HasPartRoom};
 ghost use Rattle.phase_run.specs.Passes.{Passes, LosesLittle, block_beat_loss, beat_products_in_blocks};
 
 use crate::blocks::pass_blocks;
+use crate::over::Stretch;
+use crate::room::PartRoom;
 use beat_ladder::{BlockRoom, Ladder};
 use place_chain::PlaceChain;
 use product_chain::Chain;
-use sil_model::{Loop, Steps};
+use sil_model::Steps;
 use std::sync::ledger::Ledger;
 
 /// For fewer beats no places are chosen: that takes about as long as it saves.
@@ -20,15 +23,6 @@ const LEAST_BEATS: u64 = 8;
 
 /// Places into which beats bring at most so much for each of them are left out, in units of 2^-48.
 const LEAST_MASS: u64 = 16;
-
-/// How many lumped events a loop has: four for each group, and three common causes for each subsystem.
-#[tactic(auto, unfolding(sil_model::specs::Budget::lumped_events_of))]
-pub fn events_of(l: &Loop) -> u64
-    ensures value { result ≡ lumped_events_of l.now.subsystems }
-    ensures few { result ≤ 1_000 }
-{
-    4 * l.groups() as u64 + 3 * l.len() as u64
-}
 
 /// Whether a choice of places and then so many products for each beat come to no more than the beats may take.
 fn choice_fits(chain: &Chain, of_beat: u128, beats: u64, events: u64) -> bool
@@ -85,15 +79,15 @@ fn loss_of_beat(states: usize, events: u64) -> u128
     2 * u128::from(events) + 2 * states as u128 + 200
 }
 
-/// The sum of all numbers.
-fn total(v: &[u128]) -> u128
-    requires { sum v.now < 2 ^ 128 }
-    ensures { result ≡ sum v.now }
+/// The sum of a dwell.
+fn total(dwell: &[u128]) -> u128
+    requires { sum dwell.now < 2 ^ 128 }
+    ensures { result ≡ sum dwell.now }
 {
-    v.iter().sum()
+    dwell.iter().sum()
 }
 
-/// The mass of a vector over places.
+/// The mass of a vector.
 fn mass(v: &[u64]) -> u64
     requires { sum v.now < 2 ^ 64 }
     ensures { result ≡ sum v.now }
@@ -102,7 +96,7 @@ fn mass(v: &[u64]) -> u64
 }
 
 /// Whether in so many beats a vector and its dwell have lost at most half of what they may.
-fn loses_little(before: &[u128], after: &[u64], dwelt: &[u128], beats: u64, loss: u128) -> bool
+fn loses_little(before: &[u64], after: &[u64], dwelt: &[u128], beats: u64, loss: u128) -> bool
     requires before { sum before.now ≤ 2 ^ 48 }
     requires after { sum after.now ≤ 2 ^ 48 }
     requires dwelt { sum dwelt.now ≤ beats * 2 ^ 48 }
@@ -111,50 +105,55 @@ fn loses_little(before: &[u128], after: &[u64], dwelt: &[u128], beats: u64, loss
     ensures { IsTrue result → LosesLittle beats loss before.now after.now dwelt.now }
 {
     let beats = u128::from(beats);
-    let before = total(before);
+    let before = u128::from(mass(before));
     let lost = before.saturating_sub(u128::from(mass(after)));
     let lacks = (beats * before).saturating_sub(total(dwelt));
     2 * lost <= beats * loss && 2 * lacks <= beats * beats * loss
 }
 
 /// Passes beats over chosen places, and answers whether little was lost; if not, vector and dwell stay as they were.
-#[allow(clippy::too_many_arguments)]
 fn pass_over_chosen<L: Ledger>(
-    chosen: &PlaceChain,
-    ladder: &Ladder,
+    stretch: &Stretch<'_>,
     blocks: &mut BlockRoom,
-    beats: u64,
-    events: u64,
     small: &mut [u64],
     small_dwell: &mut [u128],
-    v: &mut [u128],
+    v: &mut [u64],
     dwell: &mut [u128],
     steps: &mut Steps<L>,
 ) -> bool
-    requires rungs { 0 < ladder.now }
-    requires blocks { states_of chosen.now.chain.of.subsystems ≤ blocks.old }
-    requires events { events ≡ lumped_events_of chosen.now.chain.of.subsystems }
-    requires small { length small.old ≡ states_of chosen.now.chain.of.subsystems }
-    requires small_dwell { length small_dwell.old ≡ states_of chosen.now.chain.of.subsystems }
-    requires v { length v.old ≡ states_of chosen.now.chain.of.subsystems }
-    requires dwell { length dwell.old ≡ states_of chosen.now.chain.of.subsystems }
+    requires rungs { 0 < stretch.now.ladder.now }
+    requires blocks { states_of stretch.now.places.now.chain.of.subsystems ≤ blocks.old }
+    requires events { stretch.now.events ≡ lumped_events_of stretch.now.places.now.chain.of.subsystems }
+    requires small { length small.old ≡ states_of stretch.now.places.now.chain.of.subsystems }
+    requires small_dwell { length small_dwell.old ≡ states_of stretch.now.places.now.chain.of.subsystems }
+    requires v { length v.old ≡ states_of stretch.now.places.now.chain.of.subsystems }
+    requires dwell { length dwell.old ≡ states_of stretch.now.places.now.chain.of.subsystems }
     requires mass { IsMass v.old }
     requires none { (k : ℕ) → k < length dwell.old → slice_index dwell.old k ≡ 0 }
-    requires few { beats ≤ 1_000_000 }
+    requires few { stretch.now.beats ≤ 1_000_000 }
     ensures blocks { blocks.new ≡ blocks.old }
-    ensures passes { IsTrue result → Passes chosen.now.chain 16 (block_beat_loss chosen.now.chain.of.subsystems) beats v.old v.new dwell.old dwell.new }
+    ensures passes { IsTrue result → Passes stretch.now.places.now.chain 16 (block_beat_loss stretch.now.places.now.chain.of.subsystems) stretch.now.beats v.old v.new dwell.old dwell.new }
     ensures kept { IsFalse result → v.new ≡ v.old }
     ensures dwell_kept { IsFalse result → dwell.new ≡ dwell.old }
-    ensures steps { steps.new ≤ steps.old + beats * beat_products_in_blocks chosen.now.entries (length chosen.now.places) }
+    ensures steps { steps.new ≤ steps.old + stretch.now.beats * beat_products_in_blocks stretch.now.places.now.entries (length stretch.now.places.now.places) }
 {
-    let loss = loss_of_beat(v.len(), events);
+    let chosen = stretch.places;
+    let loss = loss_of_beat(v.len(), stretch.events);
     let size = chosen.size();
     let small = &mut small[..size];
     let small_dwell = &mut small_dwell[..size];
     chosen.gather(v, small);
     small_dwell.fill(0);
-    pass_blocks(ladder, blocks, chosen, beats, small, small_dwell, steps);
-    if !loses_little(v, small, small_dwell, beats, loss) {
+    pass_blocks(
+        stretch.ladder,
+        blocks,
+        chosen,
+        stretch.beats,
+        small,
+        small_dwell,
+        steps,
+    );
+    if !loses_little(v, small, small_dwell, stretch.beats, loss) {
         return false;
     }
     chosen.scatter(small, v);
@@ -164,43 +163,33 @@ fn pass_over_chosen<L: Ledger>(
 
 /// Chooses the places that come to hold enough, where they are clearly fewer than those that are reached, and passes beats over
 /// them. It answers whether it has done so and little was lost; if not, vector and dwell stay as they were.
-#[allow(clippy::too_many_arguments)]
 pub fn pass_over_few<L: Ledger>(
-    chosen: &mut PlaceChain,
-    reached: &PlaceChain,
-    chain: &Chain,
+    room: &mut PartRoom,
     ladder: &Ladder,
-    blocks: &mut BlockRoom,
+    chain: &Chain,
     beats: u64,
-    events: u64,
-    small: &mut [u64],
-    small_dwell: &mut [u128],
-    v: &mut [u128],
+    v: &mut [u64],
     dwell: &mut [u128],
     steps: &mut Steps<L>,
 ) -> bool
-    requires same { chosen.old.chain.of ≡ chain.now.of }
-    requires reached { reached.now.chain ≡ chain.now }
-    requires blocks { states_of chain.now.of.subsystems ≤ blocks.old }
-    requires events { events ≡ lumped_events_of chain.now.of.subsystems }
-    requires few_events { events ≤ 1_000 }
-    requires small { length small.old ≡ states_of chain.now.of.subsystems }
-    requires small_dwell { length small_dwell.old ≡ states_of chain.now.of.subsystems }
+    requires room { HasPartRoom chain.now.of room.old }
+    requires reached { room.old.reached.chain ≡ chain.now }
     requires v { length v.old ≡ states_of chain.now.of.subsystems }
     requires dwell { length dwell.old ≡ states_of chain.now.of.subsystems }
     requires mass { IsMass v.old }
     requires none { (k : ℕ) → k < length dwell.old → slice_index dwell.old k ≡ 0 }
     requires few { beats ≤ 1_000_000 }
-    ensures same { chosen.new.chain.of ≡ chain.now.of }
-    ensures blocks { blocks.new ≡ blocks.old }
+    ensures room { HasPartRoom chain.now.of room.new }
+    ensures reached { room.new.reached ≡ room.old.reached }
     ensures passes { IsTrue result → Passes chain.now 16 (block_beat_loss chain.now.of.subsystems) beats v.old v.new dwell.old dwell.new }
     ensures kept { IsFalse result → v.new ≡ v.old }
     ensures dwell_kept { IsFalse result → dwell.new ≡ dwell.old }
     ensures none { ladder.now ≡ 0 → steps.new ≡ steps.old }
     // beats over all places that are reached may follow
-    ensures steps { steps.new + beats * beat_products_in_blocks reached.now.entries (length reached.now.places) ≤ steps.old + beats * beat_products chain.now.of.subsystems 16 }
+    ensures steps { steps.new + beats * beat_products_in_blocks room.old.reached.entries (length room.old.reached.places) ≤ steps.old + beats * beat_products chain.now.of.subsystems 16 }
 {
-    let of_reached = products_of_beat(reached);
+    let events = room.events;
+    let of_reached = products_of_beat(&room.reached);
     if beats < LEAST_BEATS || ladder.rungs() == 0 {
         return false;
     }
@@ -208,18 +197,22 @@ pub fn pass_over_few<L: Ledger>(
         return false;
     }
     // What flows in goes by a tick for each beat in the mean; a quarter more is a margin.
-    chosen.choose(chain, v, beats + beats / 4, LEAST_MASS * beats, steps);
-    if !may_be_tried(chosen, reached, chain, beats, events) {
+    room.chosen
+        .choose(chain, v, beats + beats / 4, LEAST_MASS * beats, steps);
+    if !may_be_tried(&room.chosen, &room.reached, chain, beats, events) {
         return false;
     }
-    pass_over_chosen(
-        chosen,
+    let stretch = Stretch {
+        places: &room.chosen,
         ladder,
-        blocks,
         beats,
         events,
-        small,
-        small_dwell,
+    };
+    pass_over_chosen(
+        &stretch,
+        &mut room.blocks,
+        room.v.as_mut_slice(),
+        room.dwell.as_mut_slice(),
         v,
         dwell,
         steps,

@@ -2,11 +2,12 @@
 //!
 //! [`run_phase_by_ladder`] pushes a vector through all beats of a phase, from one test hour to the next, by blocks of many
 //! beats, over the places that the vector reaches or over those that come to hold enough; without a rung, one by one. It
-//! takes no memory; a [`PlaceRoom`] is made before.
+//! takes no memory; a [`LadderRoom`] is made before. What every way of running a phase promises is `RunsPhase`.
 //!
+//! - `phase`: what the beats of a phase go by.
 //! - `blocks`: the beats of a phase by the rungs of a ladder.
 //! - `over`: blocks over the places that are reached. `chosen`: over chosen ones, if little is lost elsewhere.
-//! - `part`: the choice between both for some beats, and the room for them. `places`: a phase in two such parts.
+//! - `part`: the choice between both for some beats. `room`: the room for them. `places`: a phase in two such parts.
 #![tactic(auto)]
 
 mod blocks;
@@ -14,7 +15,9 @@ mod by_ladder;
 mod chosen;
 mod over;
 mod part;
+mod phase;
 mod places;
+mod room;
 
 ghost use Rattle.std.specs.Prelude.{◌≡◌, ℕ, ◌+◌, ◌*◌, ◌/◌, ◌^◌, ◌<◌, ◌≤◌, length, slice_index, All};
 ghost use Rattle.sil_model.specs.Sizes.{states_of};
@@ -25,7 +28,8 @@ ghost use Rattle.uniformise.specs.Beat.{beat_products};
 ghost use Rattle.phase_run.specs.Passes.{Passes};
 
 pub use by_ladder::run_phase_by_ladder;
-pub use places::PlaceRoom;
+pub use phase::Phase;
+pub use places::LadderRoom;
 use product_chain::Chain;
 use series_weights::Weights;
 use sil_model::Steps;
@@ -38,7 +42,7 @@ fn pass_beats<L: Ledger>(
     chain: &Chain,
     weights: &Weights,
     beats: u64,
-    v: &mut [u128],
+    v: &mut [u64],
     dwell: &mut [u128],
     steps: &mut Steps<L>,
 )

@@ -7,7 +7,8 @@ ghost use Rattle.vector_laws.specs.Laws.{IsSumWith};
 ghost use Rattle.uniformise.specs.Beat.{beat_products};
 ghost use Rattle.phase_run.specs.Passes.{Passes, block_beat_loss};
 
-use crate::part::PartRoom;
+use crate::part::pass_part;
+use crate::room::PartRoom;
 use beat_ladder::Ladder;
 use product_chain::Chain;
 use sil_model::{Loop, Steps};
@@ -18,36 +19,46 @@ use std::sync::ledger::Ledger;
 /// With fewer beats before its greatest blocks a phase is passed in one part: what is in repair is not back at work by then.
 const LEAST_EARLY: u64 = 64;
 
-/// Room for blocks of beats over the places that a vector reaches, or over chosen ones, by the chains of one loop. Contracts
-/// see it as the loop.
+/// A ladder, with room for its blocks of beats over the places that a vector reaches, or over chosen ones, by the chains of one
+/// loop. Contracts see it as the loop.
 #[derive(Drop)]
-pub struct PlaceRoom {
+pub struct LadderRoom {
+    ladder: Ladder,
     part: PartRoom,
     later: Vec<u128>,
 }
 
-impl Model for PlaceRoom {
-    ghost use Rattle.std.specs.Prelude.{◌≡◌, vec_len};
+impl Model for LadderRoom {
     ghost use Rattle.sil_model.specs.LoopValue.{LoopValue};
-    ghost use Rattle.sil_model.specs.Sizes.{states_of};
+    ghost use Rattle.phase_run.specs.Rooms.{HasLadderRoom};
 
     ghost Value = { LoopValue };
 
-    ghost view = { λ r. r.part };
+    ghost view = { λ r. r.part.reached.chain.of };
 
-    ghost invariant = { λ r. vec_len r.later ≡ states_of r.part.subsystems };
+    ghost invariant = { HasLadderRoom };
 }
 
-impl PlaceRoom {
+impl LadderRoom {
     /// Room for the vectors of a chain of a loop, which have this size.
-    pub fn new(alloc: Global, l: &Loop, chain: &Chain, size: usize) -> Result<PlaceRoom, AllocError>
+    pub fn new(
+        alloc: Global,
+        l: &Loop,
+        chain: &Chain,
+        size: usize,
+        ladder: Ladder,
+    ) -> Result<LadderRoom, AllocError>
         requires same { l.now ≡ chain.now.of }
         requires size { size ≡ states_of chain.now.of.subsystems }
         ensures { IfOk result (λ r. r ≡ chain.now.of) }
     {
         let part = PartRoom::new(alloc, l, chain, size)?;
         let later = vec![in alloc; 0u128; size]?;
-        Ok(PlaceRoom { part, later })
+        Ok(LadderRoom {
+            ladder,
+            part,
+            later,
+        })
     }
 
     /// Passes beats from a vector by the rungs of a ladder, and answers how many are left. The dwell begins with nothing.
@@ -56,10 +67,9 @@ impl PlaceRoom {
     /// failed come back from repair, so that fewer places hold enough from there on.
     pub fn pass_blocks<L: Ledger>(
         &mut self,
-        ladder: &Ladder,
         chain: &Chain,
         beats: u64,
-        v: &mut [u128],
+        v: &mut [u64],
         dwell: &mut [u128],
         steps: &mut Steps<L>,
     ) -> u64
@@ -74,15 +84,16 @@ impl PlaceRoom {
         ensures passes { Passes chain.now 16 (block_beat_loss chain.now.of.subsystems) (beats - result) v.old v.new dwell.old dwell.new }
         ensures steps { steps.new ≤ steps.old + (beats - result) * beat_products chain.now.of.subsystems 16 }
     {
+        let ladder = &self.ladder;
+        let part = &mut self.part;
         let early = early_beats(ladder, beats);
         if early == 0 {
-            return self.part.pass_part(ladder, chain, beats, v, dwell, steps);
+            return pass_part(part, ladder, chain, beats, v, dwell, steps);
         }
-        self.part.pass_part(ladder, chain, early, v, dwell, steps);
+        pass_part(part, ladder, chain, early, v, dwell, steps);
         let later = self.later.as_mut_slice();
         later.fill(0);
-        self.part
-            .pass_part(ladder, chain, beats - early, v, later, steps);
+        pass_part(part, ladder, chain, beats - early, v, later, steps);
         add_all(dwell, later);
         0
     }

@@ -7,7 +7,7 @@ use Rattle.std.proofs.lemmas.List.Sums.{sum_by-cons}
 use Rattle.sil_model.specs.Sizes.{states_of}
 use Rattle.sil_model.specs.declared.parts.Subsystem.{Subsystem}
 use Rattle.product_chain.specs.Kept.{ChainValue}
-use Rattle.independence_laws.specs.Subsystems.{states_in}
+use Rattle.separate_laws.specs.Subsystems.{states_in}
 use Rattle.subsystem_power.specs.Powers.{PowerValue}
 use Rattle.phase_separate.specs.Products.{power_products}
 use Rattle.phase_separate.specs.Subsystems.{chain_alone, powers_at}

@@ -14,7 +14,7 @@ use Rattle.phase_run.specs.Passes.{block_beat_loss}
 use Rattle.phase_separate.specs.Losses.{LoseLittle}
 use Rattle.sil_model.specs.declared.parts.Subsystem.{Subsystem}
 use Rattle.uniformise.specs.Beat.{vector_loss}
-use Rattle.independence_laws.specs.Subsystems.{states_in}
+use Rattle.separate_laws.specs.Subsystems.{states_in}
 use Rattle.subsystem_power.specs.Powers.{begin_products}
 use Rattle.phase_separate.specs.Extents.{IsSizeOf, AreSumsOf, AreSmall, IsAdded}
 use Rattle.phase_separate.specs.Subsystems.{matrix_loss}

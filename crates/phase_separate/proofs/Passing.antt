@@ -16,16 +16,16 @@ use Rattle.lumped_laws.specs.ValueLists.{tick_list, beat_list}
 use Rattle.lumped_laws.proofs.LinearLists.{linear_laws}
 use Rattle.product_chain.specs.Kept.{ChainValue}
 use Rattle.uniformise.specs.Beat.{hours_of_beat, vector_loss}
-use Rattle.dense_power.specs.Matrix.{Matrix, entry_of, EachEntryAtMost}
-use Rattle.dense_power.specs.Rows.{row_of, EachRowAtMost}
+use Rattle.vector_laws.specs.Matrix.{Matrix, entry_of, EachEntryAtMost}
+use Rattle.vector_laws.specs.Rows.{row_of, EachRowAtMost}
 use Rattle.dense_power.specs.Powers.{end_lack_of}
-use Rattle.digit_laws.specs.Digits.{along, IsAlongDown}
-use Rattle.digit_laws.specs.Laws.{DigitLaw, MatrixLaw}
-use Rattle.digit_laws.proofs.DigitLaws.{digit_law}
-use Rattle.digit_laws.proofs.MatrixLaws.{matrix_law}
+use Rattle.separate_laws.specs.Digits.{along, IsAlongDown}
+use Rattle.separate_laws.specs.DigitLaws.{DigitLaw, MatrixLaw}
+use Rattle.separate_laws.proofs.DigitLaws.{digit_law}
+use Rattle.separate_laws.proofs.MatrixLaws.{matrix_law}
 use Rattle.separate_laws.specs.Separate.{separate_beats}
-use Rattle.independence_laws.specs.Subsystems.{states_in, steps_from}
-use Rattle.independence_laws.proofs.Numbers.{states-parts, states-some}
+use Rattle.separate_laws.specs.Subsystems.{states_in, steps_from}
+use Rattle.separate_laws.proofs.StateNumbers.{states-parts, states-some}
 use Rattle.subsystem_power.specs.Powers.{PowerValue, IsPowerOf}
 use Rattle.phase_separate.specs.Passes.{PassesAlong, along_loss}
 use Rattle.phase_separate.specs.Subsystems.{chain_alone, powers_at, steps_at, matrix_loss}

@@ -11,11 +11,11 @@ use Rattle.lumped_laws.proofs.LinearLists.{linear_laws}
 use Rattle.product_chain.specs.Kept.{ChainValue, IsTimed}
 use Rattle.uniformise.specs.Beat.{hours_of_beat}
 use Rattle.exponential_laws.proofs.Terms.{exponential_law}
-use Rattle.digit_laws.proofs.Along.{stays-asks}
-use Rattle.digit_laws.proofs.DigitLaws.{digit_law}
+use Rattle.separate_laws.proofs.Along.{stays-asks}
+use Rattle.separate_laws.proofs.DigitLaws.{digit_law}
 use Rattle.separate_laws.specs.Laws.{SeparateLaw}
 use Rattle.separate_laws.proofs.Separates.{separate_law}
-use Rattle.independence_laws.proofs.Separate.{independence}
+use Rattle.separate_laws.proofs.Independence.{independence}
 use Rattle.phase_separate.specs.Subsystems.{steps_at}
 
 pub separate : (c : ChainValue) → IsValid c.of → IsTimed c.of.subsystems c.hours c.beats

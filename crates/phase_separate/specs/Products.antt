@@ -3,7 +3,7 @@ use Rattle.std.specs.Prelude.{ℕ, ◌+◌, ◌*◌, ◌^◌, List, [], ◌∷�
 use Rattle.sil_model.specs.Sizes.{states_of}
 use Rattle.sil_model.specs.declared.parts.Subsystem.{Subsystem}
 use Rattle.uniformise.specs.Beat.{beat_products}
-use Rattle.independence_laws.specs.Subsystems.{states_in}
+use Rattle.separate_laws.specs.Subsystems.{states_in}
 use Rattle.subsystem_power.specs.Powers.{begin_products}
 
 module _ (us : List Subsystem) where

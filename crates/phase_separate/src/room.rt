@@ -9,9 +9,10 @@ ghost use Rattle.phase_separate.specs.Losses.{LoseLittle};
 ghost use Rattle.phase_separate.specs.Products.{separate_products};
 ghost use Rattle.phase_separate.specs.Subsystems.{HaveFewStates};
 
-use crate::phase::{dwell_all, lower_visited, narrow, pass_ends, visit_all, widen};
+use crate::along::Buffers;
+use crate::phase::{dwell_all, lower_visited, pass_ends, visit_all};
 use crate::subsystems::{begin, subsystems_of};
-use product_chain::Chain;
+use phase_run::Phase;
 use series_weights::Weights;
 use sil_model::{Loop, Steps};
 use std::alloc::{AllocError, Global};
@@ -28,17 +29,12 @@ pub struct SeparateRoom {
     of: Snapshot<Loop>,
     weights: Weights,
     subsystems: Vec<SubsystemPower>,
-    /// The vector at the start of a phase.
-    start: Vec<u64>,
-    /// A vector that is passed along the subsystems, and room for it.
-    now: Vec<u64>,
-    next: Vec<u64>,
+    /// A vector that is passed along the subsystems, and room for the next.
+    buffers: Buffers,
     /// The sum of the vectors at the start of each beat.
     visited: Vec<u64>,
-    /// The vector at the end of a phase.
+    /// The vector at the end of a phase, and then the mean of those at the start of each beat.
     later: Vec<u64>,
-    /// The mean of the vectors at the start of each beat.
-    mean: Vec<u128>,
 }
 
 impl Model for SeparateRoom {
@@ -70,48 +66,46 @@ impl SeparateRoom {
             of: Snapshot::of(l),
             weights: Weights::new(16),
             subsystems: subsystems_of(alloc, l, hours, beats)?,
-            start: vec![in alloc; 0u64; size]?,
-            now: vec![in alloc; 0u64; size]?,
-            next: vec![in alloc; 0u64; size]?,
+            buffers: Buffers {
+                now: vec![in alloc; 0u64; size]?,
+                next: vec![in alloc; 0u64; size]?,
+            },
             visited: vec![in alloc; 0u64; size]?,
             later: vec![in alloc; 0u64; size]?,
-            mean: vec![in alloc; 0u128; size]?,
         })
     }
 
     /// Passes all beats of a phase: `v` goes to its end, and `dwell` becomes what the vector dwells in them.
-    #[allow(clippy::too_many_arguments)]
     pub fn pass_beats<L: Ledger>(
         &mut self,
         work: &mut Workspace,
-        chain: &Chain,
-        beats: u64,
-        hours: u64,
-        v: &mut [u128],
+        phase: &Phase<'_>,
+        v: &mut [u64],
         dwell: &mut [u128],
         steps: &mut Steps<L>,
     )
-        requires same { self.old ≡ chain.now.of }
-        requires beats { beats ≡ chain.now.beats }
-        requires hours { hours ≡ chain.now.hours }
-        requires work { work.old ≡ states_of chain.now.of.subsystems }
-        requires v { length v.old ≡ states_of chain.now.of.subsystems }
-        requires dwell { length dwell.old ≡ states_of chain.now.of.subsystems }
+        requires same { self.old ≡ phase.now.chain.now.of }
+        requires beats { phase.now.beats ≡ phase.now.chain.now.beats }
+        requires hours { phase.now.hours ≡ phase.now.chain.now.hours }
+        requires work { work.old ≡ states_of phase.now.chain.now.of.subsystems }
+        requires v { length v.old ≡ states_of phase.now.chain.now.of.subsystems }
+        requires dwell { length dwell.old ≡ states_of phase.now.chain.now.of.subsystems }
         requires mass { IsMass v.old }
-        requires little { LoseLittle chain.now.of.subsystems beats }
+        requires little { LoseLittle phase.now.chain.now.of.subsystems phase.now.beats }
         ensures same { self.new ≡ self.old }
         ensures work { work.new ≡ work.old }
-        ensures passes { Passes chain.now 16 (block_beat_loss chain.now.of.subsystems) beats v.old v.new (replicate (states_of chain.now.of.subsystems) 0) dwell.new }
-        ensures steps { (digits : ℕ) → beats < 2 ^ digits → steps.new ≤ steps.old + separate_products chain.now.of.subsystems digits }
+        ensures passes { Passes phase.now.chain.now 16 (block_beat_loss phase.now.chain.now.of.subsystems) phase.now.beats v.old v.new (replicate (states_of phase.now.chain.now.of.subsystems) 0) dwell.new }
+        ensures steps { (digits : ℕ) → phase.now.beats < 2 ^ digits → steps.new ≤ steps.old + separate_products phase.now.chain.now.of.subsystems digits }
     {
         // The values of its loop are in their ranges, and its beats are enough.
-        let _ = chain.columns();
-        narrow(v, self.start.as_mut_slice());
+        let _ = phase.chain.columns();
+        let chain = phase.chain;
+        let beats = phase.beats;
         begin(
             chain,
             self.subsystems.as_mut_slice(),
             &self.weights,
-            hours,
+            phase.hours,
             beats,
             steps,
         );
@@ -119,40 +113,41 @@ impl SeparateRoom {
             chain,
             self.subsystems.as_mut_slice(),
             beats,
-            self.start.as_slice(),
+            v,
             self.visited.as_mut_slice(),
-            &mut self.now,
-            &mut self.next,
+            &mut self.buffers,
             steps,
         );
         pass_ends(
             chain,
             self.subsystems.as_slice(),
             beats,
-            self.start.as_slice(),
+            v,
             self.later.as_mut_slice(),
-            &mut self.now,
-            &mut self.next,
+            &mut self.buffers,
             steps,
         );
-        widen(self.later.as_slice(), v);
         lower_visited(
             chain,
             self.subsystems.as_slice(),
             beats,
-            self.start.as_slice(),
+            v,
             self.visited.as_mut_slice(),
-            &mut self.now,
-            &mut self.next,
+            &mut self.buffers,
             steps,
         );
+        v.copy_from_slice(self.later.as_slice());
+        let by_sixteen = Phase {
+            chain,
+            weights: &self.weights,
+            hours: phase.hours,
+            beats,
+        };
         dwell_all(
             work,
-            chain,
-            &self.weights,
-            beats,
+            &by_sixteen,
             self.visited.as_slice(),
-            self.mean.as_mut_slice(),
+            self.later.as_mut_slice(),
             dwell,
             steps,
         );

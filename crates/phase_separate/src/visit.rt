@@ -6,24 +6,23 @@ ghost use Rattle.vector_laws.specs.Laws.{IsSumWith};
 ghost use Rattle.vector_laws.specs.Vectors.{IsMass};
 ghost use Rattle.phase_separate.specs.Passes.{IsVisited};
 ghost use Rattle.phase_separate.specs.Products.{along_products, power_products};
+ghost use Rattle.phase_separate.specs.Rooms.{HaveSize};
 ghost use Rattle.phase_separate.specs.Subsystems.{powers_at};
 
-use crate::along::{Span, pass_along};
+use crate::along::{Buffers, Span, pass_along};
 use product_chain::Chain;
 use sil_model::Steps;
 use std::sync::ledger::Ledger;
 use subsystem_power::SubsystemPower;
 
 /// Twice as many beats: what was visited is visited again, so many beats on.
-#[allow(clippy::too_many_arguments)]
 pub fn double<L: Ledger>(
     chain: &Chain,
     subsystems: &mut [SubsystemPower],
     passed: u64,
     start: &[u64],
     visited: &mut [u64],
-    now: &mut Vec<u64>,
-    next: &mut Vec<u64>,
+    buffers: &mut Buffers,
     steps: &mut Steps<L>,
 )
     requires subsystems { subsystems.old ≡ powers_at chain.now passed }
@@ -31,33 +30,37 @@ pub fn double<L: Ledger>(
     requires few { 2 * passed < 2 ^ 15 }
     requires mass { IsMass start.now }
     requires start { length start.now ≡ states_of chain.now.of.subsystems }
-    requires now { vec_len now.old ≡ states_of chain.now.of.subsystems }
-    requires next { vec_len next.old ≡ states_of chain.now.of.subsystems }
+    requires buffers { HaveSize (states_of chain.now.of.subsystems) buffers.old }
     requires visited { IsVisited chain.now passed start.now visited.old }
     ensures subsystems { subsystems.new ≡ powers_at chain.now (passed + passed) }
-    ensures now { vec_len now.new ≡ vec_len now.old }
-    ensures next { vec_len next.new ≡ vec_len next.old }
+    ensures buffers { HaveSize (states_of chain.now.of.subsystems) buffers.new }
     ensures visited { IsVisited chain.now (passed + passed) start.now visited.new }
     ensures steps { steps.new ≤ steps.old + along_products chain.now.of.subsystems + power_products chain.now.of.subsystems }
 {
     let _ = start;
     let _ = chain.columns();
-    now.copy_from_slice(visited);
-    pass_along(chain, subsystems, Span::Power, passed, now, next, steps);
-    add_all(visited, now);
+    buffers.now.copy_from_slice(visited);
+    pass_along(
+        chain,
+        subsystems,
+        Span::Power,
+        passed,
+        &mut buffers.now,
+        &mut buffers.next,
+        steps,
+    );
+    add_all(visited, &buffers.now);
     double_powers(chain, subsystems, passed, steps);
 }
 
 /// One beat more.
-#[allow(clippy::too_many_arguments)]
 pub fn add_beat<L: Ledger>(
     chain: &Chain,
     subsystems: &mut [SubsystemPower],
     passed: u64,
     start: &[u64],
     visited: &mut [u64],
-    now: &mut Vec<u64>,
-    next: &mut Vec<u64>,
+    buffers: &mut Buffers,
     steps: &mut Steps<L>,
 )
     requires subsystems { subsystems.old ≡ powers_at chain.now passed }
@@ -65,19 +68,25 @@ pub fn add_beat<L: Ledger>(
     requires few { passed + 1 < 2 ^ 15 }
     requires mass { IsMass start.now }
     requires start { length start.now ≡ states_of chain.now.of.subsystems }
-    requires now { vec_len now.old ≡ states_of chain.now.of.subsystems }
-    requires next { vec_len next.old ≡ states_of chain.now.of.subsystems }
+    requires buffers { HaveSize (states_of chain.now.of.subsystems) buffers.old }
     requires visited { IsVisited chain.now passed start.now visited.old }
     ensures subsystems { subsystems.new ≡ powers_at chain.now (passed + 1) }
-    ensures now { vec_len now.new ≡ vec_len now.old }
-    ensures next { vec_len next.new ≡ vec_len next.old }
+    ensures buffers { HaveSize (states_of chain.now.of.subsystems) buffers.new }
     ensures visited { IsVisited chain.now (passed + 1) start.now visited.new }
     ensures steps { steps.new ≤ steps.old + along_products chain.now.of.subsystems + power_products chain.now.of.subsystems }
 {
     let _ = chain.columns();
-    now.copy_from_slice(start);
-    pass_along(chain, subsystems, Span::Power, passed, now, next, steps);
-    add_all(visited, now);
+    buffers.now.copy_from_slice(start);
+    pass_along(
+        chain,
+        subsystems,
+        Span::Power,
+        passed,
+        &mut buffers.now,
+        &mut buffers.next,
+        steps,
+    );
+    add_all(visited, &buffers.now);
     lengthen_powers(chain, subsystems, passed, steps);
 }
 

@@ -1,7 +1,6 @@
 -- Columns over the ranks of marked numbers: what they are given, how long they are, what their entries ask for.
-use Rattle.std.proofs.Common.{◌≡◌, ℕ, ◌*◌, ◌^◌, ◌≤◌, List, [], ◌∷◌, length, get_or, refl, ◌∙◌, arith, length-append}
+use Rattle.std.proofs.Common.{◌≡◌, ℕ, ◌*◌, ◌≤◌, List, [], ◌∷◌, length, get_or, refl, ◌∙◌, arith, length-append}
 use Rattle.std.specs.Prelude.{Bool, true, false, All, if◌then◌else◌}
-use Rattle.std.proofs.Math.Nat.{mul-le-mul}
 use Rattle.std.proofs.lemmas.List.Elements.{All-append, All-cons, All-nil, All-head, All-tail}
 use Rattle.std.proofs.lemmas.List.Sums.{sum_by-cons, sum_by-append}
 use Rattle.product_chain.specs.declared.column.Entry.{Entry}
@@ -55,15 +54,3 @@ module _ (marks : List Bool) (ranks : List ℕ) where
         go : (b : Bool) → is_marked marks e.source ≡ b → All Q (here_of b e)
         go true h = All-cons Q (record { source = get_or ranks e.source 0; weight = e.weight }) [] (keeps e h (All-head P e es all)) (All-nil Q)
         go false h = All-nil Q
-
--- a column is given little by numbers that are at most 1
-pub given-small : (v : ℕ → ℕ) → ((i : ℕ) → v i ≤ 2 ^ 48) → (es : List Entry) → All (λ e. e.weight ≤ 2 ^ 48) es → given v es ≤ length es * 2 ^ 96
-given-small v small [] all = omega arith
-given-small v small (e ∷ es) all =
-    let one : e.weight * v e.source ≤ 2 ^ 48 * 2 ^ 48 = mul-le-mul (All-head (λ (e : Entry). e.weight ≤ 2 ^ 48) e es all) (small e.source) in
-    omega (
-      arith,
-      sum_by-cons (λ (e : Entry). e.weight * v e.source) e es,
-      one,
-      given-small v small es (All-tail (λ (e : Entry). e.weight ≤ 2 ^ 48) e es all),
-    )

@@ -6,6 +6,7 @@ use Rattle.sil_fraction.specs.Fraction.{Fraction, ◌*ℚ◌, ◌≤ℚ◌, whol
 use Rattle.sil_fraction.specs.Sum.{total_below, sum_below}
 use Rattle.sil_fraction.proofs.Laws.{le_trans, le_of_same, mul-le-right, mul-le-left, mul_comm, mul_assoc, whole-mul, whole-le}
 use Rattle.sil_fraction.proofs.Sums.{below-le, below-same, below-swap, mul-below, le_from_scaled, whole-sum, sum-le, sum-same, sum-add, sum-mul}
+use Rattle.sil_model.specs.Budget.{lumped_events_of}
 use Rattle.sil_model.specs.Sizes.{states_of}
 use Rattle.sil_model.specs.Series.{Values}
 use Rattle.sil_model.specs.declared.parts.Subsystem.{Subsystem}
@@ -18,7 +19,7 @@ use Rattle.vector_laws.proofs.Masses.{sum_of, sum-constant}
 use Rattle.vector_laws.proofs.Weighing.{weigh-below}
 use Rattle.product_chain.specs.declared.column.Entry.{Entry}
 use Rattle.product_chain.specs.Columns.{part, given}
-use Rattle.product_chain.specs.Kept.{ChainValue, events_number}
+use Rattle.product_chain.specs.Kept.{ChainValue}
 use Rattle.product_chain.specs.Steps.{scale}
 use Rattle.product_chain.specs.Weights.{IsRow, one_at, weight_of}
 use Rattle.product_chain.proofs.Weights.{row}
@@ -31,7 +32,7 @@ pub record IsTickAt (c : ChainValue) (places : List ℕ) (closed : Bool) (from t
       → get_or to k 0 ≡ sum_below (length places) (λ l. get_or from l 0 * weight_of c.of.subsystems c.hours c.beats (get_or places l 0) (get_or places k 0)) / scale
   pub encloses : (g : Values ℕ) → weigh to g ≤ℚ weigh from (step_at places (tick_list c.of.subsystems (ratio c.hours c.beats)) g)
   pub kept : sum to ≤ sum from
-  pub lack : sum from ≤ sum to + (if closed then events_number c.of.subsystems + length places else 2 ^ 48)
+  pub lack : sum from ≤ sum to + (if closed then lumped_events_of c.of.subsystems + length places else 2 ^ 48)
 
 module _ (c : ChainValue) (places : List ℕ) (closed : Bool) (starts : List ℕ) (entries : List Entry) (r : IsPlaceChain c places closed starts entries) where
   abbrev us : List Subsystem
@@ -44,7 +45,7 @@ module _ (c : ChainValue) (places : List ℕ) (closed : Bool) (starts : List ℕ
   m = length places
 
   abbrev E : ℕ
-  E = events_number us
+  E = lumped_events_of us
 
   abbrev p : ℕ → ℕ
   p k = get_or places k 0

@@ -5,7 +5,7 @@ use Rattle.sil_model.specs.Series.{Values, times, beat_of, mean_of}
 use Rattle.model_laws.specs.Polynomial.{IsLinear, means_of}
 use Rattle.sil_model.specs.Sizes.{states_of}
 use Rattle.lumped_laws.specs.ValueLists.{tick_list, beat_list, mean_list, phase_list}
-use Rattle.block_laws.specs.Block.{IsAfter, IsDwelt}
+use Rattle.vector_laws.specs.Block.{IsAfter, IsDwelt}
 use Rattle.place_chain.specs.PlaceChain.{PlaceChainValue, IsWithin, IsGatheredFrom, at_places, step_of_places}
 
 module _ (r : PlaceChainValue) where

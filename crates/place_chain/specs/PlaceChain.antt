@@ -2,6 +2,7 @@
 use Rattle.std.specs.Prelude.{◌≡◌, ℕ, Bool, true, ◌+◌, ◌*◌, ◌^◌, ◌<◌, ◌≤◌, List, length, slice_index, if◌then◌else◌}
 use Rattle.sil_fraction.specs.Fraction.{◌*ℚ◌, ratio}
 use Rattle.sil_fraction.specs.Sum.{total_below, sum_below}
+use Rattle.sil_model.specs.Budget.{lumped_events_of}
 use Rattle.sil_model.specs.LoopValue.{IsValid}
 use Rattle.sil_model.specs.Sizes.{states_of, most_states}
 use Rattle.sil_model.specs.Series.{Values}
@@ -9,7 +10,7 @@ use Rattle.sil_model.specs.declared.parts.Subsystem.{Subsystem}
 use Rattle.lumped_laws.specs.ValueLists.{tick_list}
 use Rattle.product_chain.specs.declared.column.Entry.{Entry}
 use Rattle.product_chain.specs.Columns.{AreWeighted, part, given}
-use Rattle.product_chain.specs.Kept.{ChainValue, IsTimed, events_number}
+use Rattle.product_chain.specs.Kept.{ChainValue, IsTimed}
 use Rattle.product_chain.specs.Weights.{one_at, weight_of}
 
 -- a chain with some places, and how many entries lead between them; whether they are closed, so that no weight leads elsewhere
@@ -71,7 +72,7 @@ pub record AreBetween (us : List Subsystem) (hours beats : ℕ) (places starts :
   pub weights : (v : ℕ → ℕ) (k : ℕ) → k < length places
       → given v (part starts entries k)
       ≡ sum_below (length places) (λ l. v l * weight_of us hours beats (slice_index places l) (slice_index places k))
-  pub number : length entries ≤ states_of us * (events_number us + 1)
+  pub number : length entries ≤ states_of us * (lumped_events_of us + 1)
 
 -- all of it, with its room
 pub record IsPlaceChain (c : ChainValue) (places : List ℕ) (closed : Bool) (starts : List ℕ) (entries : List Entry) : Type 0 where
@@ -88,11 +89,11 @@ pub record HasRoom (c : ChainValue) (masses marks ranks places starts entries : 
   pub ranks_room : ranks ≡ states_of c.of.subsystems
   pub places_room : states_of c.of.subsystems ≤ places
   pub starts_room : states_of c.of.subsystems + 1 ≤ starts
-  pub entries_room : states_of c.of.subsystems * (events_number c.of.subsystems + 1) ≤ entries
+  pub entries_room : states_of c.of.subsystems * (lumped_events_of c.of.subsystems + 1) ≤ entries
 
 -- what a tick over places loses, at most: all, where weights may lead elsewhere
 abbrev pub tick_loss_of : PlaceChainValue → ℕ
-tick_loss_of r = if r.closed then events_number r.chain.of.subsystems + length r.places else 2 ^ 48
+tick_loss_of r = if r.closed then lumped_events_of r.chain.of.subsystems + length r.places else 2 ^ 48
 
 -- the step of values that a tick of the places stays below
 abbrev pub step_of_places : PlaceChainValue → Values ℕ → Values ℕ

@@ -3,21 +3,20 @@
 ghost use Rattle.std.specs.Prelude.{◌≡◌, ℕ, true, false, [], ◌+◌, ◌*◌, ◌/◌, ◌^◌, ◌<◌, ◌≤◌, length, sum, slice_index, IfOk};
 ghost use Rattle.sil_fraction.specs.Fraction.{◌≤ℚ◌};
 ghost use Rattle.sil_fraction.specs.Sum.{sum_below};
+ghost use Rattle.sil_model.specs.Budget.{lumped_events_of};
 ghost use Rattle.sil_model.specs.Series.{Values};
 ghost use Rattle.sil_model.specs.Sizes.{states_of};
 ghost use Rattle.vector_laws.specs.Vectors.{weigh};
-ghost use Rattle.product_chain.specs.Kept.{events_number};
 ghost use Rattle.product_chain.specs.Weights.{weight_of};
 ghost use Rattle.place_chain.specs.Sweeps.{choice_products};
 ghost use Rattle.place_chain.specs.PlaceChain.{AreInOrder, AreNoMore, HaveAllAbove, IsWithin, IsGatheredFrom, at_places, step_of_places, tick_loss_of};
 
 use crate::closure::{mark_reached, mark_support};
-use crate::column::gather;
 use crate::compact::{compact, list_places};
 use crate::estimate::mark_heavy;
 use beat_ladder::Tick;
 use common_cause::events;
-use product_chain::{Chain, Entry};
+use product_chain::{Chain, Columns, Entry, gather};
 use sil_model::{Loop, Steps};
 use std::alloc::{AllocError, Global};
 use std::marker::Model;
@@ -83,7 +82,7 @@ impl PlaceChain {
     }
 
     /// Finds the places that a vector can reach by a chain of the same loop, and makes it the chain over these.
-    pub fn reach(&mut self, chain: &Chain, v: &[u128])
+    pub fn reach(&mut self, chain: &Chain, v: &[u64])
         requires same { self.old.chain.of ≡ chain.now.of }
         requires v { length v.now ≡ states_of chain.now.of.subsystems }
         ensures chain { self.new.chain ≡ chain.now }
@@ -93,15 +92,14 @@ impl PlaceChain {
     {
         let columns = chain.columns();
         mark_support(v, self.marks.as_mut_slice());
-        mark_reached(columns.entries, columns.starts, self.marks.as_mut_slice());
+        mark_reached(columns, self.marks.as_mut_slice());
         list_places(
             self.marks.as_slice(),
             &mut self.places,
             self.ranks.as_mut_slice(),
         );
         compact(
-            columns.entries,
-            columns.starts,
+            columns,
             self.marks.as_slice(),
             self.ranks.as_slice(),
             self.places.as_slice(),
@@ -117,7 +115,7 @@ impl PlaceChain {
     pub fn choose<L: Ledger>(
         &mut self,
         chain: &Chain,
-        v: &[u128],
+        v: &[u64],
         ticks: u64,
         least: u64,
         steps: &mut Steps<L>,
@@ -131,8 +129,7 @@ impl PlaceChain {
     {
         let columns = chain.columns();
         mark_heavy(
-            columns.entries,
-            columns.starts,
+            columns,
             v,
             ticks,
             least,
@@ -146,8 +143,7 @@ impl PlaceChain {
             self.ranks.as_mut_slice(),
         );
         compact(
-            columns.entries,
-            columns.starts,
+            columns,
             self.marks.as_slice(),
             self.ranks.as_slice(),
             self.places.as_slice(),
@@ -169,14 +165,14 @@ impl PlaceChain {
     /// How many entries lead between the places: the products of a tick.
     pub fn products(&self) -> usize
         ensures value { result ≡ self.now.entries }
-        ensures few { result ≤ states_of self.now.chain.of.subsystems * (events_number self.now.chain.of.subsystems + 1) }
+        ensures few { result ≤ states_of self.now.chain.of.subsystems * (lumped_events_of self.now.chain.of.subsystems + 1) }
     {
         self.entries.len()
     }
 
     /// Takes the numbers of a vector at the places, which weigh no more than the vector. One that holds nothing elsewhere keeps
     /// its mass and its weight.
-    pub fn gather(&self, v: &[u128], small: &mut [u64])
+    pub fn gather(&self, v: &[u64], small: &mut [u64])
         requires v { length v.now ≡ states_of self.now.chain.of.subsystems }
         requires mass { sum v.now ≤ 2 ^ 48 }
         requires small { length small.old ≡ length self.now.places }
@@ -190,7 +186,7 @@ impl PlaceChain {
     }
 
     /// Puts the numbers at the places back. Elsewhere the vector holds nothing.
-    pub fn scatter(&self, small: &[u64], v: &mut [u128])
+    pub fn scatter(&self, small: &[u64], v: &mut [u64])
         requires v { length v.old ≡ states_of self.now.chain.of.subsystems }
         requires small { length small.now ≡ length self.now.places }
         ensures gathered { IsGatheredFrom self.now.places v.new small.now }
@@ -226,13 +222,11 @@ impl PlaceChain {
         ensures lack { sum from.now ≤ sum to.new + tick_loss_of self.now }
         ensures steps { steps.new ≤ steps.old + self.now.entries }
     {
-        gather(
-            self.entries.as_slice(),
-            self.starts.as_slice(),
-            from,
-            to,
-            steps,
-        );
+        let columns = Columns {
+            entries: self.entries.as_slice(),
+            starts: self.starts.as_slice(),
+        };
+        gather(columns, from, to, steps);
     }
 }
 
@@ -254,19 +248,18 @@ impl Tick for PlaceChain {
 }
 
 /// Takes the numbers at the places.
-fn take_at(places: &[u32], v: &[u128], small: &mut [u64])
-    requires mass { sum v.now ≤ 2 ^ 48 }
+fn take_at(places: &[u32], v: &[u64], small: &mut [u64])
     requires below { (k : ℕ) → k < length places.now → slice_index places.now k < length v.now }
     requires small { length small.old ≡ length places.now }
     ensures { IsGatheredFrom places.now v.now small.new }
 {
     for k in 0..places.len() {
-        small[k] = v[places[k] as usize] as u64;
+        small[k] = v[places[k] as usize];
     }
 }
 
 /// Puts numbers at the places, and 0 elsewhere.
-fn put_at(places: &[u32], small: &[u64], v: &mut [u128])
+fn put_at(places: &[u32], small: &[u64], v: &mut [u64])
     requires below { (k : ℕ) → k < length places.now → slice_index places.now k < length v.old }
     requires rising { (k l : ℕ) → k < l → l < length places.now → slice_index places.now k < slice_index places.now l }
     requires small { length small.now ≡ length places.now }
@@ -275,7 +268,7 @@ fn put_at(places: &[u32], small: &[u64], v: &mut [u128])
 {
     v.fill(0);
     for k in 0..places.len() {
-        v[places[k] as usize] = u128::from(small[k]);
+        v[places[k] as usize] = small[k];
     }
 }
 

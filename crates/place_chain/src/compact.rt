@@ -4,7 +4,7 @@ ghost use Rattle.std.specs.Prelude.{◌≡◌, ◌<◌, ◌≤◌, ◌+◌, ◌^
 ghost use Rattle.product_chain.specs.Columns.{AreWeighted};
 ghost use Rattle.place_chain.specs.Places.{ArePlaces, AreCompact, compacted};
 
-use product_chain::Entry;
+use product_chain::{Columns, Entry};
 
 /// Lists the numbers that are marked, and sets the rank of each number: how many before it are marked.
 pub fn list_places(marks: &[bool], places: &mut Vec<u32>, ranks: &mut [u32])
@@ -27,21 +27,20 @@ pub fn list_places(marks: &[bool], places: &mut Vec<u32>, ranks: &mut [u32])
 
 /// The columns of the places, with the ranks of their sources, and where they begin.
 pub fn compact(
-    all: &[Entry],
-    all_starts: &[usize],
+    all: Columns<'_>,
     marks: &[bool],
     ranks: &[u32],
     places: &[u32],
     entries: &mut Vec<Entry>,
     starts: &mut Vec<usize>,
 )
-    requires columns { AreWeighted (length marks.now) (length marks.now) all_starts.now all.now }
+    requires columns { AreWeighted (length marks.now) (length marks.now) all.starts.now all.entries.now }
     requires places { ArePlaces marks.now places.now ranks.now }
     requires ranks { length ranks.now ≡ length marks.now }
-    requires room { length all.now ≤ vec_capacity entries.old }
+    requires room { length all.entries.now ≤ vec_capacity entries.old }
     requires starts { length places.now + 1 ≤ vec_capacity starts.old }
-    ensures compact { AreCompact marks.now ranks.now places.now all_starts.now all.now starts.new.items entries.new.items }
-    ensures few { length entries.new.items ≤ length all.now }
+    ensures compact { AreCompact marks.now ranks.now places.now all.entry.starts.now all.entry.entries.now starts.new.items entries.new.items }
+    ensures few { length entries.new.items ≤ length all.entry.entries.now }
     ensures room { vec_capacity entries.old ≤ vec_capacity entries.new }
     ensures starts { vec_capacity starts.old ≤ vec_capacity starts.new }
 {
@@ -52,7 +51,7 @@ pub fn compact(
         let j = *place as usize;
         push_column(
             entries,
-            &all[all_starts[j]..all_starts[j + 1]],
+            &all.entries[all.starts[j]..all.starts[j + 1]],
             marks,
             ranks,
         );

@@ -9,7 +9,7 @@
 //!   over them loses no more than one over all.
 //! - `estimate`: the places that come to hold enough. What the others would have held is lost, and how much that is shows
 //!   at the end of the phase, by what the vector lacks.
-//! - `compact`: the places, their ranks, and the columns over the ranks. `column`: a tick over them.
+//! - `compact`: the places, their ranks, and the columns over the ranks.
 //! - [`PlaceChain`] keeps all of it, and its room for every phase of a loop.
 #![tactic(auto)]
 
@@ -19,7 +19,6 @@ ghost use Rattle.place_chain.specs.Phases.{PlacesLaw, AreTaken, ScatteredLaw};
 
 mod chain;
 mod closure;
-mod column;
 mod compact;
 mod estimate;
 

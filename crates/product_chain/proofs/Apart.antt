@@ -3,6 +3,7 @@ use Rattle.std.proofs.Common.{◌≡◌, ◌≢◌, ℕ, ◌+◌, ◌*◌, ◌<�
 use Rattle.std.specs.Prelude.{Bool, true, false, if◌then◌else◌, nat_lt}
 use Rattle.std.proofs.lemmas.Bool.{cases_lt, ltb-true}
 use Rattle.sil_model.specs.LoopValue.{groups_of}
+use Rattle.sil_model.specs.Sizes.{channel_states}
 use Rattle.sil_model.specs.Counts.{IsCounts, count_in, place_of, moved_in, number_of, counts_numbered}
 use Rattle.sil_model.specs.declared.parts.Chan.TheVariants.{Work, Repair}
 use Rattle.sil_model.specs.declared.parts.Subsystem.{Subsystem}
@@ -10,9 +11,10 @@ use Rattle.channel_counts.specs.GroupSums.{sum_in, moved_together}
 use Rattle.common_cause.specs.declared.event.LumpEvent.{LumpEvent}
 use Rattle.common_cause.specs.LumpedRates.{spans, times_of, counts_after}
 use Rattle.common_cause.specs.Shares.{share_at}
-use Rattle.lumping.proofs.Numbering.{counts_numbered-number_of}
+use Rattle.count_laws.proofs.Numbering.{counts_numbered-number_of}
 use Rattle.product_chain.specs.Steps.{lower}
-use Rattle.product_chain.proofs.Events.{IsFair, after-valid}
+use Rattle.common_cause.proofs.InLoop.{after-valid}
+use Rattle.product_chain.proofs.Events.{IsFair}
 use Rattle.product_chain.proofs.Shapes.{IsShaped, hours_at, owner_at}
 use Rattle.product_chain.proofs.Shapes.IsShaped.{falls, returns}
 use Rattle.product_chain.proofs.Working.{working, other-group, not-more, after-failure-of, after-return, together-not-more, together-fewer}
@@ -27,14 +29,14 @@ module _ (us : List Subsystem) (cs : List ℕ) (v : IsCounts (groups_of us) cs) 
     pub shaped : IsShaped us e
     pub happens : 0 < times_of (spans us) cs e
 
-  inside : (e : LumpEvent) → IsFair us e → 4 * (e.group + (if e.whole then spans us e.subsystem else 1)) ≤ length cs
-  inside e fair = omega (arith, fair.inside, v.four_each)
+  inside : (e : LumpEvent) → IsFair us e → channel_states * (e.group + (if e.whole then spans us e.subsystem else 1)) ≤ length cs
+  inside e fair = omega (arith, fair.in_loop.groups, v.each)
 
   module _ (e : LumpEvent) (fair : IsFair us e) (from : e.from ≡ Work) (apart : place_of Work ≢ place_of e.to) where
     pub fewer-somewhere : 0 < times_of (spans us) cs e → (h : ℕ) × (working (after e) h < working cs h)
     fewer-somewhere happens = go e.whole (inside e fair) happens
       where
-        go : (b : Bool) → 4 * (e.group + (if b then spans us e.subsystem else 1)) ≤ length cs
+        go : (b : Bool) → channel_states * (e.group + (if b then spans us e.subsystem else 1)) ≤ length cs
             → 0 < (if b then (if nat_lt 0 (sum_in cs e.group (spans us e.subsystem) Work) then 1 else 0) else count_in cs e.group e.from)
             → (h : ℕ) × (working (if b then moved_together e.group (spans us e.subsystem) e.to cs else moved_in cs e.group e.from e.to 1) h < working cs h)
         go true long h = together-fewer e.to apart (spans us e.subsystem) e.group cs long
@@ -51,13 +53,13 @@ module _ (us : List Subsystem) (cs : List ℕ) (v : IsCounts (groups_of us) cs) 
     pub none-more : (h : ℕ) → working (after e) h ≤ working cs h
     none-more h = go e.whole (inside e fair)
       where
-        go : (b : Bool) → 4 * (e.group + (if b then spans us e.subsystem else 1)) ≤ length cs
+        go : (b : Bool) → channel_states * (e.group + (if b then spans us e.subsystem else 1)) ≤ length cs
             → working (if b then moved_together e.group (spans us e.subsystem) e.to cs else moved_in cs e.group e.from e.to 1) h ≤ working cs h
         go true long = together-not-more e.to apart (spans us e.subsystem) e.group cs long h
         go false long = rw from (not-more cs e.group (omega (arith, long)) e.to 1 apart h)
 
   module _ (e : LumpEvent) (fair : IsFair us e) (single : e.whole ≡ false) (from : e.from ≡ Repair) (to : e.to ≡ Work) where
-    long : 4 * e.group + 4 ≤ length cs
+    long : channel_states * e.group + channel_states ≤ length cs
     long = let h = rw single at (inside e fair) in omega (arith, h)
 
     pub one-more : working (after e) e.group ≡ working cs e.group + 1
@@ -119,7 +121,7 @@ module _ (us : List Subsystem) (cs : List ℕ) (v : IsCounts (groups_of us) cs) 
   number e = number_of (groups_of us) (after e)
 
   back : (e : LumpEvent) → MayHappen e → counts_numbered (groups_of us) (number e) ≡ after e
-  back e m = counts_numbered-number_of (groups_of us) (after e) (after-valid us cs e m.fair v m.happens)
+  back e m = counts_numbered-number_of (groups_of us) (after e) (after-valid us cs e m.fair.in_loop v m.happens)
 
   pub number-away : (i : ℕ) → cs ≡ counts_numbered (groups_of us) i → (e : LumpEvent) → MayHappen e → number e ≢ i
   number-away i is e m same = leads-away e m (sym (back e m) ∙ ap (counts_numbered (groups_of us)) same ∙ sym is)

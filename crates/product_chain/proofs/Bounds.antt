@@ -8,7 +8,7 @@ use Rattle.std.proofs.lemmas.List.Sums.{sum_by-cons, sum_by-take-le, sum_by-take
 use Rattle.std.proofs.lemmas.List.Sorted.{sum_by-IsPermutation, length_permutation}
 use Rattle.std.proofs.lemmas.List.{length-map}
 use Rattle.sil_model.specs.LoopValue.{LoopValue}
-use Rattle.sil_model.specs.Sizes.{states_of}
+use Rattle.sil_model.specs.Sizes.{states_of, most_states}
 use Rattle.sil_model.specs.declared.parts.Subsystem.{Subsystem}
 use Rattle.common_cause.specs.LumpEvents.{lump_events_of}
 use Rattle.product_chain.specs.declared.moves.Move.{Move}
@@ -166,7 +166,7 @@ module _ (l : LoopValue) (hours beats : ℕ) (rates : List TickRate) (moves : Li
   sum-map j (m ∷ ms) = omega (arith, sum_by-cons (reaches j) (step_of_move rates m) (map (step_of_move rates) ms), sum_by-cons (arrives j) m ms, sum-map j ms)
 
   -- at most one from each count vector, and what stays
-  column-few : (j : ℕ) → j < n → length (part starts entries j) ≤ 4097
+  column-few : (j : ℕ) → j < n → length (part starts entries j) ≤ most_states + 1
   column-few j h =
       let a : ℕ = get_or move_starts j 0 in
       let b : ℕ = get_or move_starts (j + 1) 0 in

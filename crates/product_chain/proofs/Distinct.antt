@@ -10,7 +10,7 @@ use Rattle.sil_model.specs.declared.parts.Subsystem.{Subsystem}
 use Rattle.common_cause.specs.declared.event.LumpEvent.{LumpEvent}
 use Rattle.common_cause.specs.LumpEvents.{lump_events_of}
 use Rattle.common_cause.specs.LumpedRates.{spans, counts_after}
-use Rattle.lumping.proofs.Numbering.{counts_numbered-valid}
+use Rattle.count_laws.proofs.Numbering.{counts_numbered-valid}
 use Rattle.product_chain.specs.declared.step.Step.{Step}
 use Rattle.product_chain.specs.Steps.{joined, times, step_by, steps_over, steps_from, steps_below}
 use Rattle.product_chain.proofs.Events.{IsFair, events_fair}

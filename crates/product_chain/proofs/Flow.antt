@@ -6,7 +6,7 @@ use Rattle.std.proofs.lemmas.List.Elements.{All-cons, All-nil, All-head, All-tai
 use mathlib.Core.Path.{fun_ext}
 use Rattle.sil_fraction.specs.Fraction.{Fraction, ◌+ℚ◌, ◌*ℚ◌, ◌≤ℚ◌, whole, ratio, inverse}
 use Rattle.sil_fraction.specs.Sum.{total}
-use Rattle.sil_fraction.proofs.Laws.{zero-add, zero-mul, one-mul, mul_assoc, add_assoc, whole-mul, le_trans, mul-le-left, ratio-mul, le_from_ratio-le, whole-ratio, add_comm}
+use Rattle.sil_fraction.proofs.Laws.{zero-add, zero-mul, mul_assoc, add_assoc, whole-mul, le_trans, mul-le-left, ratio-mul, le_from_ratio-le, whole-ratio, add_comm}
 use Rattle.sil_fraction.proofs.Sums.{add-zero, mul-one, le-add_right}
 use Rattle.sil_model.specs.State.{FullState}
 use Rattle.sil_model.specs.Events.{events_of, flow_of, step_of, leaving_rate}
@@ -24,7 +24,7 @@ use Rattle.common_cause.specs.declared.share.Share.{Share}
 use Rattle.common_cause.specs.Shares.{IsSmallShare, share_value, share_at}
 use Rattle.common_cause.proofs.Shares.{shares-small, share-counted}
 use Rattle.common_cause.proofs.Flows.{rate_by, lumped_flow, flow_of_counts}
-use Rattle.lumping.proofs.Numbering.{counts_numbered-valid, number_of-counts_numbered, number_of-small}
+use Rattle.count_laws.proofs.Numbering.{counts_numbered-valid, number_of-counts_numbered, number_of-small}
 use Rattle.model_laws.proofs.Rates.{short, some_beats}
 use Rattle.product_chain.specs.declared.step.Step.{Step}
 use Rattle.product_chain.specs.Steps.{joined, upper, lower, times, share, step_by, steps_over, steps_from, steps_below, IsSlow}
@@ -32,7 +32,8 @@ use Rattle.lumped_laws.specs.CountsOfState.{counts_of_state, number_of_state}
 use Rattle.lumped_laws.specs.StateOfCounts.{state_numbered}
 use Rattle.lumped_laws.specs.ValueLists.{tick_list, at_number}
 use Rattle.lumped_laws.proofs.States.{numbered-counts}
-use Rattle.product_chain.proofs.Events.{IsFair, events_fair, after-valid}
+use Rattle.common_cause.proofs.InLoop.{after-valid}
+use Rattle.product_chain.proofs.Events.{IsFair, events_fair}
 use Rattle.product_chain.proofs.Row.{steps_flow, joined_flow, joined_length, step_tick, Positive}
 use Rattle.product_chain.proofs.Row.Positive.{none as no_step_left, one as one_positive}
 use Rattle.std.proofs.Math.Nat.{mul-pos}
@@ -161,7 +162,7 @@ module _ (us : List Subsystem) (cs : List ℕ) (v : IsCounts (groups_of us) cs) 
       mine : 0 < times us cs i e → IsStep (states_of us) i (step_by us cs i e)
       mine p = record {
         source = refl;
-        target = number_of-small (groups_of us) _ (after-valid us cs e here v p);
+        target = number_of-small (groups_of us) _ (after-valid us cs e here.in_loop v p);
         positive = here.positive (share us cs i e) (shares-small us 0 cs e.subsystem);
         small = here.small (share us cs i e) (shares-small us 0 cs e.subsystem);
       }

@@ -1,6 +1,7 @@
 -- What a vector gives to the columns is what its rows give.
-use Rattle.std.proofs.Common.{◌≡◌, ℕ, zero, suc, ◌+◌, ◌-◌, ◌*◌, ◌<◌, ◌≤◌, inl, inr, List, [], ◌∷◌, ◌++◌, get_or, refl, sym, ap, ◌∙◌, arith}
+use Rattle.std.proofs.Common.{◌≡◌, ℕ, zero, suc, ◌+◌, ◌-◌, ◌*◌, ◌^◌, ◌<◌, ◌≤◌, inl, inr, List, [], ◌∷◌, ◌++◌, length, get_or, refl, sym, ap, ◌∙◌, arith}
 use Rattle.std.specs.Prelude.{Bool, true, false, All, map, nat_lt, sum_by, if◌then◌else◌, ◌==◌}
+use Rattle.std.proofs.Math.Nat.{mul-le-mul}
 use Rattle.std.specs.List.Sorted.{IsPermutation}
 use Rattle.std.proofs.lemmas.Bool.{cases_lt, ltb-false, eq-eqb, ne_eqb}
 use Rattle.std.proofs.lemmas.List.Elements.{All-head, All-tail}
@@ -205,3 +206,15 @@ module _ (us : List Subsystem) (n hours beats : ℕ) (rates : List TickRate) (mo
           ∙ sym (below-same n _ _ (λ i p. mul-add (whole (v i)) _ _)
           ∙ below-add n (λ i. whole (v i) *ℚ total (λ (s : Step). whole (step_down hours beats s) *ℚ f s.target) (steps_from us i))
           (λ j. whole (v j) *ℚ (whole (stays hours beats (steps_from us j)) *ℚ f j)))
+
+-- a column is given little by numbers that are at most 1
+pub given-small : (v : ℕ → ℕ) → ((i : ℕ) → v i ≤ 2 ^ 48) → (es : List Entry) → All (λ e. e.weight ≤ 2 ^ 48) es → given v es ≤ length es * 2 ^ 96
+given-small v small [] all = omega arith
+given-small v small (e ∷ es) all =
+    let one : e.weight * v e.source ≤ 2 ^ 48 * 2 ^ 48 = mul-le-mul (All-head (λ (e : Entry). e.weight ≤ 2 ^ 48) e es all) (small e.source) in
+    omega (
+      arith,
+      sum_by-cons (λ (e : Entry). e.weight * v e.source) e es,
+      one,
+      given-small v small es (All-tail (λ (e : Entry). e.weight ≤ 2 ^ 48) e es all),
+    )

@@ -8,6 +8,7 @@ use Rattle.sil_fraction.specs.Fraction.{Fraction, ◌+ℚ◌, ◌*ℚ◌, ◌≤
 use Rattle.sil_fraction.specs.Sum.{total, total_below, sum_below}
 use Rattle.sil_fraction.proofs.Laws.{le_trans, le_of_same, mul-le-right, mul-le-left, mul_comm, mul_assoc, whole-mul, whole-add, whole-le, le-whole}
 use Rattle.sil_fraction.proofs.Sums.{below-le, below-same, mul-below, mul-one, le_from_scaled, whole-sum, sum-le, sum-add, sum-mul}
+use Rattle.sil_model.specs.Budget.{lumped_events_of}
 use Rattle.sil_model.specs.LoopValue.{LoopValue, IsSubsystemInRange}
 use Rattle.sil_model.specs.Sizes.{states_of}
 use Rattle.sil_model.specs.Series.{Values}
@@ -26,7 +27,7 @@ use Rattle.lumped_laws.specs.ValueLists.{tick_list}
 use Rattle.vector_laws.specs.Vectors.{weigh}
 use Rattle.vector_laws.proofs.Masses.{sum_of as sum-places, sum-constant}
 use Rattle.vector_laws.proofs.Weighing.{weigh-below}
-use Rattle.product_chain.specs.Kept.{events_number, AreMoves, AreColumns, IsChain}
+use Rattle.product_chain.specs.Kept.{AreMoves, AreColumns, IsChain}
 use Rattle.product_chain.specs.Held.{HoldWeights}
 use Rattle.product_chain.proofs.Bounds.{weighted, entries-few, column-positive}
 use Rattle.product_chain.specs.Weights.{one_at, weight_of}
@@ -161,7 +162,7 @@ pub record IsTick (us : List Subsystem) (hours beats : ℕ) (from to : List ℕ)
   pub floors : (j : ℕ) → j < states_of us → get_or to j 0 ≡ sum_below (states_of us) (λ i. get_or from i 0 * weight_of us hours beats i j) / scale
   pub encloses : (f : Values ℕ) → weigh to f ≤ℚ weigh from (tick_list us (ratio hours beats) f)
   pub kept : sum to ≤ sum from
-  pub lack : sum from ≤ sum to + events_number us + states_of us
+  pub lack : sum from ≤ sum to + lumped_events_of us + states_of us
 
 -- the columns of a chain hold its weights
 pub holds : (l : LoopValue) (hours beats : ℕ) (rates : List TickRate) (moves : List Move) (move_starts stays starts : List ℕ) (entries : List Entry)

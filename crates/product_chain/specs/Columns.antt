@@ -1,5 +1,6 @@
 -- The columns of a chain: for each count vector, from which it is reached and with what weight.
 use Rattle.std.specs.Prelude.{◌≡◌, ℕ, ◌+◌, ◌-◌, ◌*◌, ◌^◌, ◌<◌, ◌≤◌, List, [], ◌∷◌, ◌++◌, length, slice_index, slice_index_or, slice_range, sum_by, if◌then◌else◌, nat_lt, ◌==◌, All}
+use Rattle.sil_model.specs.Sizes.{most_states}
 use Rattle.product_chain.specs.declared.moves.Move.{Move}
 use Rattle.product_chain.specs.declared.moves.TickRate.{TickRate}
 use Rattle.product_chain.specs.declared.column.Entry.{Entry}
@@ -56,6 +57,6 @@ given v es = sum_by (λ (e : Entry). e.weight * v e.source) es
 -- columns for n numbers, whose entries ask for m numbers
 pub record AreWeighted (n m : ℕ) (starts : List ℕ) (entries : List Entry) : Type 0 where
   pub parts : AreParts n starts entries
-  pub few : (j : ℕ) → j < n → length (part starts entries j) ≤ 4097
+  pub few : (j : ℕ) → j < n → length (part starts entries j) ≤ most_states + 1
   pub sources : (j : ℕ) → j < n → All (λ e. e.source < m) (part starts entries j)
   pub weights : (j : ℕ) → j < n → All (λ e. e.weight ≤ 2 ^ 48) (part starts entries j)

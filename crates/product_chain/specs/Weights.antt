@@ -2,12 +2,12 @@
 use Rattle.std.specs.Prelude.{ℕ, ◌+◌, ◌-◌, ◌^◌, ◌<◌, ◌≤◌, List, if◌then◌else◌, ◌==◌}
 use Rattle.sil_fraction.specs.Fraction.{Fraction, ◌*ℚ◌, ◌≤ℚ◌, whole, ratio}
 use Rattle.sil_fraction.specs.Sum.{sum_below}
+use Rattle.sil_model.specs.Budget.{lumped_events_of}
 use Rattle.sil_model.specs.Series.{Values}
 use Rattle.sil_model.specs.Sizes.{states_of}
 use Rattle.sil_model.specs.declared.parts.Subsystem.{Subsystem}
 use Rattle.lumped_laws.specs.ValueLists.{tick_list}
 use Rattle.product_chain.specs.Floors.{floor_of, ceiling_of}
-use Rattle.product_chain.specs.Kept.{events_number}
 
 -- the value 1 at one number alone
 abbrev pub one_at : ℕ → Values ℕ
@@ -30,4 +30,4 @@ module _ (us : List Subsystem) (hours beats : ℕ) where
   pub record IsRow (i : ℕ) : Type 0 where
     pub below : (j : ℕ) → j < states_of us → whole (weight_of i j) ≤ℚ chance_of i j
     pub most : sum_below (states_of us) (weight_of i) ≤ 2 ^ 48
-    pub least : 2 ^ 48 ≤ sum_below (states_of us) (weight_of i) + events_number us
+    pub least : 2 ^ 48 ≤ sum_below (states_of us) (weight_of i) + lumped_events_of us

@@ -4,15 +4,17 @@ ghost use Rattle.std.specs.Prelude.{◌≡◌, ℕ, ◌+◌, ◌*◌, ◌/◌, �
 ghost use Rattle.sil_fraction.specs.Sum.{sum_below};
 ghost use Rattle.product_chain.specs.Weights.{weight_of};
 ghost use Rattle.sil_fraction.specs.Fraction.{◌≤ℚ◌, ratio};
+ghost use Rattle.sil_model.specs.Budget.{lumped_events_of};
 ghost use Rattle.sil_model.specs.LoopValue.{IsValid};
 ghost use Rattle.sil_model.specs.Sizes.{states_of, most_states};
 ghost use Rattle.sil_model.specs.Series.{Values};
 ghost use Rattle.vector_laws.specs.Vectors.{weigh};
 ghost use Rattle.lumped_laws.specs.ValueLists.{tick_list};
-ghost use Rattle.product_chain.specs.Kept.{IsTimed, events_number};
+ghost use Rattle.product_chain.specs.Kept.{IsTimed};
 ghost use Rattle.product_chain.specs.Held.{HoldWeights};
 
-use crate::column::{Columns, Entry, fill, gather, set_rates, set_stays};
+use crate::column::{Columns, Entry, fill, set_rates, set_stays};
+use crate::gathering::gather;
 use crate::moves::{Move, TickRate, moves_of, starts_of};
 use lumping::Space;
 use sil_model::{Loop, Steps};
@@ -147,22 +149,20 @@ impl Chain {
     ///
     /// By every value list the vector then weighs at most what the list after a step weighed before. It loses at most two
     /// units of 2^-48 for each event of the loop and one for each count vector.
-    pub fn tick<L: Ledger>(&self, from: &[u128], to: &mut [u128], steps: &mut Steps<L>)
+    pub fn tick<L: Ledger>(&self, from: &[u64], to: &mut [u64], steps: &mut Steps<L>)
         requires from { length from.now ≡ states_of self.now.of.subsystems }
         requires to { length to.old ≡ states_of self.now.of.subsystems }
         requires mass { sum from.now ≤ 2 ^ 48 }
         ensures floors { (j : ℕ) → j < states_of self.now.of.subsystems → slice_index to.new j ≡ sum_below (states_of self.now.of.subsystems) (λ i. slice_index from.now i * weight_of self.now.of.subsystems self.now.hours self.now.beats i j) / 2 ^ 48 }
         ensures encloses { (f : Values ℕ) → weigh to.new f ≤ℚ weigh from.now (tick_list self.now.of.subsystems (ratio self.now.hours self.now.beats) f) }
         ensures kept { sum to.new ≤ sum from.now }
-        ensures lack { sum from.now ≤ sum to.new + 2 * events_number self.now.of.subsystems + states_of self.now.of.subsystems }
-        ensures steps { steps.new ≤ steps.old + states_of self.now.of.subsystems * (events_number self.now.of.subsystems + 1) }
+        ensures lack { sum from.now ≤ sum to.new + 2 * lumped_events_of self.now.of.subsystems + states_of self.now.of.subsystems }
+        ensures steps { steps.new ≤ steps.old + states_of self.now.of.subsystems * (lumped_events_of self.now.of.subsystems + 1) }
     {
-        gather(
-            self.entries.as_slice(),
-            self.starts.as_slice(),
-            from,
-            to,
-            steps,
-        );
+        let columns = Columns {
+            entries: self.entries.as_slice(),
+            starts: self.starts.as_slice(),
+        };
+        gather(columns, from, to, steps);
     }
 }

@@ -1,12 +1,10 @@
 //! The columns of a chain: what each count vector takes in a tick.
 
-ghost use Rattle.std.specs.Prelude.{◌≡◌, ℕ, ◌+◌, ◌*◌, ◌/◌, ◌<◌, ◌≤◌, ◌^◌, ◌++◌, length, map, slice_index, vec_capacity, vec_len, sum, All};
-ghost use Rattle.product_chain.specs.Columns.{AreParts, AreWeighted, part, timed, stay_of, kept, entries_of, given};
+ghost use Rattle.std.specs.Prelude.{◌≡◌, ℕ, ◌+◌, ◌*◌, ◌<◌, ◌≤◌, ◌^◌, ◌++◌, length, map, slice_index, vec_capacity, vec_len, All};
+ghost use Rattle.product_chain.specs.Columns.{AreParts, part, timed, stay_of, kept, entries_of};
 
 use crate::moves::{Move, TickRate};
-use interval_fixed::{Dot, ONE, ratio_down, ratio_up};
-use sil_model::Steps;
-use std::sync::ledger::Ledger;
+use interval_fixed::{ONE, ratio_down, ratio_up};
 
 /// What a count vector takes from another in a tick.
 #[derive(Clone, Copy, Debug, PartialEq, Eq)]
@@ -108,40 +106,4 @@ fn push_entry(entries: &mut Vec<Entry>, source: u32, weight: u64)
             unreachable!()
         };
     }
-}
-
-/// Sets each number of `to` to what `from` gives to its column, rounded down: one multiplication for each entry.
-pub fn gather<L: Ledger>(
-    entries: &[Entry],
-    starts: &[usize],
-    from: &[u128],
-    to: &mut [u128],
-    steps: &mut Steps<L>,
-)
-    requires columns { AreWeighted (length to.old) (length from.now) starts.now entries.now }
-    requires mass { sum from.now ≤ 2 ^ 48 }
-    ensures floors { (j : ℕ) → j < length to.new → slice_index to.new j ≡ given (λ i. slice_index from.now i) (part starts.now entries.now j) / 2 ^ 48 }
-    ensures steps { steps.new ≡ steps.old + length entries.now }
-{
-    for j in 0..to.len() {
-        to[j] = gathered(&entries[starts[j]..starts[j + 1]], from, steps);
-    }
-}
-
-/// What a vector gives to one column, rounded down.
-fn gathered<L: Ledger>(column: &[Entry], from: &[u128], steps: &mut Steps<L>) -> u128
-    requires few { length column.now ≤ 4097 }
-    requires sources { All (λ e. e.source < length from.now) column.now }
-    requires weights { All (λ e. e.weight ≤ 2 ^ 48) column.now }
-    requires mass { sum from.now ≤ 2 ^ 48 }
-    ensures floor { result ≡ given (λ i. slice_index from.now i) column.now / 2 ^ 48 }
-    ensures steps { steps.new ≡ steps.old + length column.now }
-{
-    let mut sum = Dot::new();
-    for entry in column {
-        // A number is at most 2^48, so that a product is one multiplication of the machine.
-        let number = from[entry.source as usize] as u64;
-        sum.add_product(u128::from(entry.weight), u128::from(number), steps);
-    }
-    sum.down()
 }

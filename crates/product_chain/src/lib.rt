@@ -17,11 +17,13 @@ ghost use Rattle.product_chain.specs.Weights.{IsRow};
 
 mod chain;
 mod column;
+mod gathering;
 mod moves;
 mod step;
 
 pub use chain::Chain;
-pub use column::{Columns, Entry, gather};
+pub use column::{Columns, Entry};
+pub use gathering::gather;
 
 /// The weights of a tick: none is above its exact chance, and those from one count vector come to at most 1 and lack at
 /// most one unit for each event.

@@ -10,11 +10,10 @@ ghost use Rattle.product_chain.specs.Steps.{steps_below, IsSlow};
 ghost use Rattle.product_chain.specs.Columns.{AreParts, part, step_of_move, no_rate, quotient};
 
 use crate::step::{Step, push_steps};
-use channel_counts::STATES;
 use common_cause::events;
 use indexmap::IndexSet;
 use lumping::Space;
-use sil_model::Loop;
+use sil_model::{CHANNEL_STATES, Loop};
 use std::alloc::{AllocError, Global};
 
 /// A rate `num / den` per hour, and its chance in a tick, in units of 2^-48.
@@ -76,8 +75,8 @@ fn moves_by_source(
     let mut numbers = IndexSet::new(alloc);
     let mut moves = Vec::with_capacity(alloc, events.len() * space.size())?;
     let mut own = Vec::with_capacity(alloc, events.len())?;
-    let mut counts = vec![in alloc; 0u8; STATES * l.groups()]?;
-    let mut after = vec![in alloc; 0u8; STATES * l.groups()]?;
+    let mut counts = vec![in alloc; 0u8; CHANNEL_STATES * l.groups()]?;
+    let mut after = vec![in alloc; 0u8; CHANNEL_STATES * l.groups()]?;
     for i in 0..space.size() {
         space.counts_at(i, counts.as_mut_slice());
         own.clear();

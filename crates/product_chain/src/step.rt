@@ -1,19 +1,15 @@
 //! The steps from one count vector to others.
 
-ghost use Rattle.std.specs.Prelude.{◌≡◌, ℕ, ◌+◌, ◌*◌, ◌<◌, ◌≤◌, ◌^◌, [], length, IfOk, All, if◌then◌else◌};
+ghost use Rattle.std.specs.Prelude.{◌≡◌, ◌+◌, ◌<◌, ◌≤◌, ◌^◌, [], length, IfOk, All};
 ghost use Rattle.sil_model.specs.LoopValue.{IsValid, groups_of};
 ghost use Rattle.sil_model.specs.Sizes.{states_of};
-ghost use Rattle.sil_model.specs.Counts.{IsCounts, count_in, counts_numbered};
-ghost use Rattle.sil_model.specs.declared.parts.Chan.{Chan};
-ghost use Rattle.channel_counts.specs.GroupSums.{moved_together};
+ghost use Rattle.sil_model.specs.Counts.{counts_numbered};
 ghost use Rattle.common_cause.specs.LumpEvents.{lump_events_of};
-ghost use Rattle.common_cause.specs.LumpedRates.{times_of, counts_after};
 ghost use Rattle.product_chain.specs.Steps.{joined, joined_at, upper, lower, steps_from};
 
-use channel_counts::{STATES, count_in, groups_in, move_in, sum_in};
 use common_cause::{LumpEvent, Rate, Share, share_at};
 use lumping::Space;
-use sil_model::{Chan, Loop};
+use sil_model::Loop;
 use std::alloc::AllocError;
 
 /// What leads from one count vector to another: `num / den` per hour.
@@ -49,72 +45,22 @@ pub fn push_steps(
     ensures { IfOk result (λ _. steps.new.items ≡ steps_from l.now.subsystems source) }
 {
     for event in events {
-        let groups = groups_in(l.subsystem(usize::from(event.subsystem)));
-        let times = times_of(counts, event, groups);
+        let times = event.times(l, counts);
         if times > 0 {
             after.copy_from_slice(counts);
-            move_event(after, event, groups);
+            event.happen(l, after);
             let share = share_at(l, usize::from(event.subsystem), counts);
             let (units, den) = quotient_of(event.rate, share);
             let step = Step {
                 source,
                 target: space.rank(after),
-                num: times * units,
+                num: u128::from(times) * units,
                 den,
             };
             add_step(steps, step)?;
         }
     }
     Ok(())
-}
-
-/// How many times the rate of an event counts: for each channel that stands in its group, or once where a channel of its
-/// subsystem works. The subsystem has so many groups.
-fn times_of(counts: &[u8], event: &LumpEvent, groups: usize) -> u128
-    requires few { groups ≤ 48 }
-    requires inside { STATES * (event.now.group + (if event.now.whole then groups else 1)) ≤ length counts.now }
-    ensures times { (span : ℕ → ℕ) → span event.now.subsystem ≡ groups → result ≡ times_of span counts.now event.now }
-    ensures small { result ≤ 255 }
-{
-    let first = usize::from(event.group);
-    if event.whole {
-        if sum_in(counts, first, groups, Chan::Work) > 0 {
-            1
-        } else {
-            0
-        }
-    } else {
-        u128::from(count_in(counts, first, event.from))
-    }
-}
-
-/// Makes counts those after an event.
-fn move_event(counts: &mut [u8], event: &LumpEvent, groups: usize)
-    requires few { groups ≤ 48 }
-    requires inside { STATES * (event.now.group + (if event.now.whole then groups else 1)) ≤ length counts.old }
-    requires small { (g : ℕ) (k : Chan) → count_in counts.old g k ≤ 8 }
-    requires happens { (span : ℕ → ℕ) → span event.now.subsystem ≡ groups → 0 < times_of span counts.old event.now }
-    ensures { (span : ℕ → ℕ) → span event.now.subsystem ≡ groups → counts.new ≡ counts_after span counts.old event.now }
-{
-    let first = usize::from(event.group);
-    if event.whole {
-        move_together(counts, first, groups, event.to);
-    } else {
-        move_in(counts, first, event.from, event.to, 1);
-    }
-}
-
-/// All channels of the groups from `first` on that work go to a state.
-fn move_together(counts: &mut [u8], first: usize, groups: usize, to: Chan)
-    requires few { groups ≤ 48 }
-    requires inside { STATES * (first + groups) ≤ length counts.old }
-    requires small { (g : ℕ) (k : Chan) → count_in counts.old g k ≤ 8 }
-    ensures { counts.new ≡ moved_together first groups to counts.old }
-{
-    for g in first..first + groups {
-        let working = count_in(counts, g, Chan::Work);
-        move_in(counts, g, Chan::Work, to, working);
-    }
 }
 
 /// A rate as a quotient per hour, where each channel in repair has a share of the crews.

@@ -1,3 +1,9 @@
+pub mod Rising
+pub mod PhaseList
+pub mod PhasesOfLoop
 pub mod ShortSchedules
 pub mod ScheduleHours
 pub mod Ends
+pub mod Within
+pub mod Few
+pub mod Small

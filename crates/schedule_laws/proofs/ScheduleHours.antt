@@ -14,7 +14,7 @@ use Rattle.sil_model.specs.LoopValue.{LoopValue}
 use Rattle.sil_model.specs.declared.parts.Subsystem.{Subsystem}
 use Rattle.model_laws.specs.Hours.{hours_of}
 use Rattle.model_laws.proofs.Rates.{over-mul, some_beats}
-use Rattle.test_calendar.proofs.PhasesOfLoop.{phases_of_fill}
+use Rattle.schedule_laws.proofs.PhasesOfLoop.{phases_of_fill}
 
 both_hours : (done left : List Item) → hours_of (done ++ left) ≡ hours_of done +ℚ hours_of left
 unfolding hours_of

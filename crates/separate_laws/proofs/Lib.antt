@@ -1,3 +1,12 @@
+pub mod DigitNumbers
+pub mod TwoDigits
+pub mod Along
+pub mod Units
+pub mod Commuting
+pub mod DigitSums
+pub mod Vectors
+pub mod DigitLaws
+pub mod MatrixLaws
 pub mod Steps
 pub mod Multiples
 pub mod Together
@@ -8,3 +17,10 @@ pub mod Places
 pub mod Expected
 pub mod Reduced
 pub mod Separates
+pub mod Parts
+pub mod Flows
+pub mod SubsystemSteps
+pub mod StateNumbers
+pub mod Ticks
+pub mod Changes
+pub mod Independence

@@ -12,7 +12,7 @@ use Rattle.model_laws.specs.Polynomial.{IsLinear}
 use Rattle.model_laws.proofs.Operators.{times-one}
 use Rattle.exponential_laws.specs.Exponential.{exponential_of, both, Commute}
 use Rattle.exponential_laws.specs.Laws.{ExponentialLaw}
-use Rattle.digit_laws.specs.Laws.{StaysBelow}
+use Rattle.separate_laws.specs.DigitLaws.{StaysBelow}
 use Rattle.separate_laws.proofs.Steps.{Step, scaled}
 
 pub whole-more : (a : ℕ) (x : Fraction) → whole (a + 1) *ℚ x ≡ whole a *ℚ x +ℚ x

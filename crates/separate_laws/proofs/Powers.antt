@@ -13,7 +13,7 @@ use Rattle.sil_model.specs.Series.{Values, times, factorial}
 use Rattle.model_laws.specs.Polynomial.{IsLinear}
 use Rattle.model_laws.proofs.Operators.{times-add}
 use Rattle.exponential_laws.specs.Exponential.{exponential_of, Commute}
-use Rattle.digit_laws.specs.Laws.{StaysBelow}
+use Rattle.separate_laws.specs.DigitLaws.{StaysBelow}
 use Rattle.separate_laws.specs.Separate.{separate_beats}
 use Rattle.separate_laws.proofs.Steps.{Step, scaled, no_beats, beats_after}
 use Rattle.separate_laws.proofs.Multiples.{whole-more, power}

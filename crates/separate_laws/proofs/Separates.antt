@@ -13,7 +13,7 @@ use Rattle.vector_laws.specs.Vectors.{weigh}
 use Rattle.vector_laws.proofs.Weighing.{weigh-le, weigh-constant}
 use Rattle.exponential_laws.specs.Exponential.{exponential_of, Commute}
 use Rattle.exponential_laws.specs.Laws.{ExponentialLaw}
-use Rattle.digit_laws.specs.Laws.{StaysBelow}
+use Rattle.separate_laws.specs.DigitLaws.{StaysBelow}
 use Rattle.separate_laws.specs.Separate.{separate_beats, AreSeparate, IsBelowSeparate, IsReduced, expected_over}
 use Rattle.separate_laws.specs.Laws.{SeparateLaw}
 use Rattle.separate_laws.proofs.Steps.{Step, scaled, no_beats, beats_after}

@@ -11,7 +11,7 @@ use Rattle.model_laws.specs.Polynomial.{IsLinear}
 use Rattle.model_laws.proofs.Operators.{times-linear, times-add, summed}
 use Rattle.model_laws.proofs.Beats.{beat-linear}
 use Rattle.exponential_laws.specs.Exponential.{exponential_of, both, Commute}
-use Rattle.digit_laws.specs.Laws.{StaysBelow}
+use Rattle.separate_laws.specs.DigitLaws.{StaysBelow}
 use Rattle.separate_laws.specs.Separate.{separate_beats}
 
 abbrev pub Step : Type 0

@@ -1,2 +1,5 @@
+pub mod Digits
+pub mod DigitLaws
 pub mod Separate
 pub mod Laws
+pub mod Subsystems

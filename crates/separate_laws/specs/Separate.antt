@@ -7,7 +7,7 @@ use Rattle.model_laws.specs.Polynomial.{IsLinear}
 use Rattle.lumped_laws.specs.LinearLists.{KeepsConstants}
 use Rattle.vector_laws.specs.Vectors.{weigh}
 use Rattle.exponential_laws.specs.Exponential.{Commute}
-use Rattle.digit_laws.specs.Laws.{StaysBelow}
+use Rattle.separate_laws.specs.DigitLaws.{StaysBelow}
 
 -- the values after m beats of each step
 abbrev pub separate_beats : List (Values ℕ → Values ℕ) → ℕ → ℕ → Values ℕ → Values ℕ

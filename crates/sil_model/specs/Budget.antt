@@ -21,9 +21,17 @@ together_units_of u = 1000 * (u.figures.beta * u.figures.du + u.figures.beta_d *
 unfoldable pub failure_rate_of : List Subsystem → ℕ
 failure_rate_of us = sum_by (λ u. u.vote.n * alone_units_of u + together_units_of u) us
 
--- how many events lead from a count vector: four of each group, and three common causes of each subsystem
+-- how many events a group has: those of one of its channels
+abbrev pub group_events : ℕ
+group_events = 4
+
+-- how many common causes a subsystem has
+abbrev pub common_causes : ℕ
+common_causes = 3
+
+-- how many events lead from a count vector: those of the groups, and the common causes of the subsystems
 unfoldable pub lumped_events_of : List Subsystem → ℕ
-lumped_events_of us = 4 * length (groups_of us) + 3 * length us
+lumped_events_of us = group_events * length (groups_of us) + common_causes * length us
 
 module _ (mission t : ℕ) where
   -- how many of these groups are tested at the hour t: those whose first channel is

@@ -1,11 +1,11 @@
--- Count vectors: how many channels of each group are in each state, four numbers a group; and their numbering.
-use Rattle.std.specs.Prelude.{◌≡◌, ℕ, zero, suc, ◌+◌, ◌-◌, ◌*◌, ◌/◌, ◌%◌, ◌<◌, List, [], ◌∷◌, ◌++◌, length, take, drop, slice_index, slice_index_or, slice_set, if◌then◌else◌, nat_le}
-use Rattle.sil_model.specs.Sizes.{shares_of}
+-- Count vectors: how many channels of each group are in each state, a number for each state; and their numbering.
+use Rattle.std.specs.Prelude.{◌≡◌, ℕ, zero, suc, ◌+◌, ◌-◌, ◌*◌, ◌/◌, ◌%◌, ◌<◌, List, [], ◌∷◌, ◌++◌, length, replicate, take, drop, slice_index, slice_index_or, slice_set, if◌then◌else◌, nat_le}
+use Rattle.sil_model.specs.Sizes.{channel_states, shares_of}
 use Rattle.sil_model.specs.declared.parts.Chan.{Chan}
 use Rattle.sil_model.specs.declared.parts.Chan.TheVariants.{Work, Hidden, Deep, Repair}
 use Rattle.sil_model.specs.declared.parts.Group.{Group}
 
--- the place of a state among the four counts of a group
+-- the place of a state among the counts of a group
 abbrev pub place_of : Chan → ℕ
 place_of Work = 0
 place_of Hidden = 1
@@ -14,21 +14,21 @@ place_of Repair = 3
 
 -- how many channels of the group g are in a state
 abbrev pub count_in : List ℕ → ℕ → Chan → ℕ
-count_in cs g k = slice_index cs (4 * g + place_of k)
+count_in cs g k = slice_index cs (channel_states * g + place_of k)
 
--- four counts for each group, with the group's size as their sum
+-- a count for each state of each group, with the group's size as their sum
 pub record IsCounts (gs : List Group) (cs : List ℕ) : Type 0 where
-  pub four_each : length cs ≡ 4 * length gs
+  pub each : length cs ≡ channel_states * length gs
   pub sums : (g : ℕ) (d : Group) → g < length gs → count_in cs g Work + count_in cs g Hidden + count_in cs g Deep + count_in cs g Repair ≡ (slice_index_or gs g d).size
 
 -- at the start every channel works
 unfoldable pub counts_at_start : List Group → List ℕ
 counts_at_start [] = []
-counts_at_start (g ∷ gs) = g.size ∷ 0 ∷ 0 ∷ 0 ∷ counts_at_start gs
+counts_at_start (g ∷ gs) = g.size ∷ replicate (channel_states - 1) 0 ++ counts_at_start gs
 
 -- the same counts, but for one state of the group g
 abbrev pub with_count : List ℕ → ℕ → Chan → ℕ → List ℕ
-with_count cs g k v = slice_set cs (4 * g + place_of k) v
+with_count cs g k v = slice_set cs (channel_states * g + place_of k) v
 
 -- n channels of the group g leave the state from for the state to
 abbrev pub moved_in : List ℕ → ℕ → Chan → Chan → ℕ → List ℕ
@@ -67,9 +67,9 @@ list_numbered (suc k) n i =
 -- the number of a count vector: a digit for each group, that of the first group being the least
 unfoldable pub number_of : List Group → List ℕ → ℕ
 number_of [] cs = 0
-number_of (g ∷ gs) cs = number_of gs (drop 4 cs) * shares_of g.size + list_number (take 4 cs)
+number_of (g ∷ gs) cs = number_of gs (drop channel_states cs) * shares_of g.size + list_number (take channel_states cs)
 
 -- the count vector that has a number
 unfoldable pub counts_numbered : List Group → ℕ → List ℕ
 counts_numbered [] i = []
-counts_numbered (g ∷ gs) i = list_numbered 3 g.size (i % shares_of g.size) ++ counts_numbered gs (i / shares_of g.size)
+counts_numbered (g ∷ gs) i = list_numbered (channel_states - 1) g.size (i % shares_of g.size) ++ counts_numbered gs (i / shares_of g.size)

@@ -7,7 +7,11 @@ use Rattle.sil_model.specs.declared.parts.Group.{Group}
 use Rattle.sil_model.specs.declared.answers.LimitFault.{LimitFault}
 use Rattle.sil_model.specs.declared.answers.LimitFault.TheVariants.{TooManyTests, TooManyStates, TooManyBeats, TooMuchWork}
 
--- in how many ways n equal channels share out over the four states: C(n + 3, 3)
+-- how many states a channel has, and so how many counts a group
+abbrev pub channel_states : ℕ
+channel_states = 4
+
+-- in how many ways n equal channels share out over their states: C(n + 3, 3)
 abbrev pub shares_of : ℕ → ℕ
 shares_of n = (n + 1) * (n + 2) * (n + 3) / 6
 
@@ -35,15 +39,23 @@ channel_tests_of l = sum_by (λ t. length (tests_at l t)) (upto 0 l.mission)
 abbrev pub most_tests : ℕ
 most_tests = 4_096
 
-abbrev pub most_states : ℕ
-most_states = 4_096
-
 abbrev pub most_beats : ℕ
 most_beats = 1_000_000
 
--- 2 ^ 34
+-- the greatest limit of any loop: arrays have room for so many states
+abbrev pub most_states : ℕ
+most_states = 4_096
+
+-- the greatest limit of any loop: 2 ^ 34
 abbrev pub most_work : ℕ
 most_work = 17_179_869_184
+
+-- the limits of one loop
+abbrev pub most_states_of : LoopValue → ℕ
+most_states_of l = most_states
+
+abbrev pub most_work_of : LoopValue → ℕ
+most_work_of l = most_work
 
 -- the bytes of a loop file
 abbrev pub most_file_bytes : ℕ
@@ -53,6 +65,6 @@ most_file_bytes = 65_536
 unfoldable pub first_limit_of : LoopValue → ℕ → Option LimitFault
 first_limit_of l order =
     if nat_lt most_tests (channel_tests_of l) then Some (TooManyTests (channel_tests_of l)) else
-    if nat_lt most_states (states_of l.subsystems) then Some (TooManyStates (states_of l.subsystems)) else
+    if nat_lt (most_states_of l) (states_of l.subsystems) then Some (TooManyStates (states_of l.subsystems)) else
     if nat_lt most_beats (all_beats_of l) then Some (TooManyBeats (all_beats_of l)) else
-    if nat_lt most_work (work_of l order) then Some (TooMuchWork (work_of l order)) else None
+    if nat_lt (most_work_of l) (work_of l order) then Some (TooMuchWork (work_of l order)) else None

@@ -9,6 +9,7 @@ mod answers;
 mod counter;
 mod limits;
 mod parts;
+mod states;
 mod texts;
 mod whole;
 
@@ -18,5 +19,6 @@ pub use limits::{
     MOST_BEATS, MOST_FILE_BYTES, MOST_STATES, MOST_TESTS, MOST_WORK, limits_are_those_of_the_model,
 };
 pub use parts::{Chan, ChannelFigures, Group, InRepair, Subsystem, TestPlan, Vote};
+pub use states::{CHANNEL_STATES, shares};
 pub use texts::Text;
 pub use whole::Loop;

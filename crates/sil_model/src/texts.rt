@@ -22,7 +22,7 @@ impl Model for Text {
 }
 
 impl Text {
-    /// The text of these bytes. The only refusal is want of memory.
+    /// The text of these bytes. It is refused only where the program is out of memory.
     pub fn from_str(alloc: Global, s: &str) -> Result<Text, AllocError>
         ensures keeps_bytes { IfOk result (λ t. t ≡ s.now) }
     {

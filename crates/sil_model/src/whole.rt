@@ -80,7 +80,7 @@ impl Loop {
     {
         let mut count = 0usize;
         for u in &self.subsystems {
-            count += usize::from(groups_in(u));
+            count += u.groups();
         }
         count
     }
@@ -92,23 +92,13 @@ impl Loop {
     {
         let mut left = g;
         for (i, u) in self.subsystems.iter().enumerate() {
-            let count = groups_in(u);
-            if left < usize::from(count) {
+            let count = u.groups();
+            if left < count {
                 return group_in(u, i as u8, left as u8);
             }
-            left -= usize::from(count);
+            left -= count;
         }
         unreachable!()
-    }
-}
-
-/// How many groups the channels of a subsystem make.
-fn groups_in(u: &Subsystem) -> u8
-    ensures { (i : ℕ) → result ≡ length (groups_by_test i u.now.vote.n u.now.test) }
-{
-    match u.test {
-        Some(plan) if plan.stagger != 0 => u.vote.n,
-        _ => 1,
     }
 }
 

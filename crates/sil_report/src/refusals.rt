@@ -24,7 +24,7 @@ pub fn limit_fault_text(alloc: Global, f: &LimitFault) -> Result<Vec<u8>, AllocE
 
 /// The line of a loop file that is refused: the fault, and the path of its place in the file.
 ///
-/// Want of memory is no fault of a file, and has no line.
+/// To be out of memory is no fault of a file, and has no line.
 pub fn file_fault_text(alloc: Global, f: &FileFault) -> Result<Vec<u8>, AllocError>
     requires { f.now ≢ Memory alloc_error }
     ensures { IfOk result (λ text. text.items ≡ file_fault_line_of f.now) }

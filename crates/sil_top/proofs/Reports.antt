@@ -10,7 +10,7 @@ use Rattle.sil_model.specs.Figures.{pfd_of, pfh_of, Contains18}
 use Rattle.sil_model.specs.Bands.{IsBandOf, pfd_edge, pfh_edge}
 use Rattle.sil_model.specs.declared.answers.Band.{Band}
 use Rattle.sil_model.specs.declared.answers.Value.{Value}
-use Rattle.budget_laws.proofs.Small.{width_small}
+use Rattle.schedule_laws.proofs.Small.{width_small}
 use Rattle.limit_laws.specs.Exact.Figure.{Pfd, Pfh}
 use Rattle.limit_laws.proofs.Figures.{exact_inside}
 use Rattle.sil_report.specs.FixedBy.{AreWritableEnds, Interval, lines_of_counts, line_of_interval}

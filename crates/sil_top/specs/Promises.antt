@@ -50,7 +50,7 @@ module _ {S : Type 0} (shelf : ShelfView S) (before now : S) (watchers : List Wa
 
   -- And the sink from a state to another, the words, and the status that is answered.
   module _ {K : Type 0} (sink : SinkView K) (old new : K) (words : List (List ℕ)) (status : Status) where
-    -- a whole answer was written, or memory was wanting
+    -- a whole answer was written, or the program was out of memory
     abbrev pub IsAnswered : Type 0
     IsAnswered = (status ≡ Memory) ⊎ (((status ≡ Done) ⊎ (status ≡ NotShown))
         × (text : List ℕ) × CallsFor seen words (record { status = status; text = text }) × IsWritten sink old new text)

@@ -21,6 +21,6 @@ pub enum Fault {
     TooLong,
     /// The file has a fault, which this line names.
     Refused(Vec<u8>),
-    /// Memory was wanting.
+    /// The program was out of memory.
     Memory(AllocError),
 }

@@ -11,7 +11,7 @@ use std::alloc::Global;
 
 /// Runs the program on its words, with its watchers: a series without records.
 ///
-/// It promises what [`run`] does, with these watchers (`program_watchers`). Where a box cannot be made, memory is wanting, and
+/// It promises what [`run`] does, with these watchers (`program_watchers`). Where a box cannot be made, the program is out of memory, and
 /// nothing is read or written. A further watcher is one box more here, in the order of `program_watchers`.
 pub fn run_program<S: Shelf, K: Sink>(
     alloc: Global,

@@ -19,13 +19,13 @@ pub trait Watcher: Drop {
     fn kind(&self) -> WatcherKind
         ensures { result ≡ (watcher_value self.now).kind };
 
-    /// Takes in a record. If memory is wanting, the watcher is as before.
+    /// Takes in a record. Where the program is out of memory, the watcher is as before.
     fn phase(&mut self, rec: &PhaseRecord) -> Result<(), AllocError>
         ensures taken { OnOk result (watcher_value self.new ≡ fed_with (rec.now ∷ []) (watcher_value self.old)) }
         ensures refused { OnErr result (watcher_value self.new ≡ watcher_value self.old) };
 
     /// Appends its line `i`, counted from 0 and ended by a line feed, and answers true. Where there is no such line it answers
-    /// false and appends nothing. If memory is wanting, `out` is as before.
+    /// false and appends nothing. Where the program is out of memory, `out` is as before.
     fn put_line(&self, i: usize, out: &mut Vec<u8>) -> Result<bool, AllocError>
         ensures line { let w = watcher_value self.now in IfOk result (λ is. IsLineAt (w.lines w.state) i is out.old.items out.new.items) }
         ensures refused { OnErr result (out.new.items ≡ out.old.items) };

@@ -2,8 +2,8 @@
 use Rattle.std.proofs.Common.{◌≡◌, ℕ, ◌*◌, ◌^◌, ◌<◌, arith}
 use Rattle.sil_model.specs.Sizes.{states_of}
 use Rattle.product_chain.specs.Kept.{ChainValue}
-use Rattle.dense_power.specs.Matrix.{Matrix, EachEntryAtMost}
-use Rattle.dense_power.specs.Rows.{row_of, EachRowAtMost}
+use Rattle.vector_laws.specs.Matrix.{Matrix, EachEntryAtMost}
+use Rattle.vector_laws.specs.Rows.{row_of, EachRowAtMost}
 use Rattle.dense_power.proofs.Pairs.{dwell_entries}
 use Rattle.subsystem_power.specs.Powers.{IsPowerOf}
 use Rattle.subsystem_power.specs.Rooms.{IsRow, IsSparePower}

@@ -9,13 +9,13 @@ use Rattle.lumped_laws.specs.ValueLists.{beat_list}
 use Rattle.vector_laws.specs.Vectors.{weigh}
 use Rattle.product_chain.specs.Kept.{ChainValue}
 use Rattle.uniformise.specs.Beat.{hours_of_beat, vector_loss}
-use Rattle.dense_power.specs.Matrix.{Matrix, entry_of, IsProductDown, IsRowProductDown}
-use Rattle.dense_power.specs.Rows.{row_of, EachRowAtMost, EachRowNear}
+use Rattle.vector_laws.specs.Matrix.{Matrix, entry_of, IsProductDown, IsRowProductDown}
+use Rattle.vector_laws.specs.Rows.{row_of, EachRowAtMost, EachRowNear}
 use Rattle.dense_power.specs.Powers.{end_lack_of}
 use Rattle.dense_power.proofs.Lacks.{without_size}
 use Rattle.dense_power.proofs.Products.{sum-same_row}
 use Rattle.dense_power.proofs.RowProducts.{product_weighs, product_most, product_least}
-use Rattle.dense_power.proofs.RowVectors.{length-row_of, row_of-at}
+use Rattle.vector_laws.proofs.RowVectors.{length-row_of, row_of-at}
 use Rattle.subsystem_power.specs.Rooms.{IsSparePower}
 
 module _ (first second both : Matrix) (same : second.size ≡ first.size) (is : both.size ≡ first.size) (product : IsProductDown first second both) where

@@ -7,8 +7,8 @@ use Rattle.sil_model.specs.declared.parts.Subsystem.{Subsystem}
 use Rattle.lumped_laws.specs.ValueLists.{beat_list}
 use Rattle.product_chain.specs.Kept.{ChainValue}
 use Rattle.uniformise.specs.Beat.{hours_of_beat, vector_loss, beat_products}
-use Rattle.dense_power.specs.Matrix.{Matrix}
-use Rattle.dense_power.specs.Rows.{IsBelowOperator, EachRowAtMost, EachRowNear}
+use Rattle.vector_laws.specs.Matrix.{Matrix}
+use Rattle.vector_laws.specs.Rows.{IsBelowOperator, EachRowAtMost, EachRowNear}
 use Rattle.dense_power.specs.Powers.{end_lack_of}
 
 -- the beats of a subsystem as contracts see them: its chain as a loop for itself, and of how many beats the power is, where it

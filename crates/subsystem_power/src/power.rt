@@ -28,7 +28,7 @@ pub struct SubsystemPower {
     space: Space,
     chain: Chain,
     work: Workspace,
-    end: Vec<u128>,
+    end: Vec<u64>,
     dwell: Vec<u128>,
     beat: Dense,
     sixteen: Dense,
@@ -73,7 +73,7 @@ impl SubsystemPower {
         let size = space.size();
         let chain = Chain::new(alloc, &alone, &space, hours, beats)?;
         let work = Workspace::new(alloc, size)?;
-        let end = vec![in alloc; 0u128; size]?;
+        let end = vec![in alloc; 0u64; size]?;
         let dwell = vec![in alloc; 0u128; size]?;
         let beat = Dense::new(alloc, size)?;
         let sixteen = Dense::new(alloc, size)?;
@@ -211,7 +211,7 @@ impl SubsystemPower {
     }
 }
 
-/// The count vectors of a loop that has few. It refuses for want of memory alone.
+/// The count vectors of a loop that has few. It is refused only where the program is out of memory.
 fn space_of(alloc: Global, l: &Loop) -> Result<Space, AllocError>
     requires { states_of l.now.subsystems ≤ most_states }
     ensures { IfOk result (λ s. s ≡ l.now) }

@@ -4,10 +4,9 @@ pub mod ChannelCounts
 pub mod TestedGroups
 pub mod Spread
 pub mod TestHours
-pub mod PhaseList
 pub mod InRange
 pub mod Rates
 pub mod GroupPlans
 pub mod Stops
 pub mod Views
-pub mod PhasesOfLoop
+pub mod GroupNumbers

@@ -12,7 +12,8 @@ use Rattle.sil_model.specs.declared.parts.Subsystem.{Subsystem}
 use Rattle.sil_model.specs.declared.parts.TestPlan.{TestPlan}
 use Rattle.sil_model.specs.LoopValue.{LoopValue, groups_by_test, single_groups}
 use Rattle.sil_model.specs.Calendar.{is_tested, is_full, test_of, tests_of, tests_from, tests_at}
-use Rattle.test_calendar.specs.GroupTests.{GroupChannels, channels_from, group_channels_of, tests_of_groups, group_tests_from, group_tests_at, tests_of_channels, spread, spread_over}
+use Rattle.count_laws.specs.GroupChannels.{GroupChannels, channels_from, group_channels_of}
+use Rattle.test_calendar.specs.GroupTests.{tests_of_groups, group_tests_from, group_tests_at, tests_of_channels, spread, spread_over}
 use Rattle.test_calendar.proofs.TestedGroups.{untested, together}
 
 abbrev none : GroupChannels

@@ -64,24 +64,3 @@ module _ {A : Type 0} (f g : ℕ → A) (p : ℕ → Bool) where
   pub map_same : (t n : ℕ) → ((k : ℕ) → k < t + n → f k ≡ g k) → map f (filter p (upto t n)) ≡ map g (filter p (upto t n))
   map_same t zero h = refl
   map_same t (suc n) h = cond_same (p t) t (filter p (upto (suc t) n)) (h t (omega arith)) (map_same (suc t) n (λ k l. h k (omega arith)))
-
--- hours that rise from the hour t on and stay below an end
-pub data IsRising (end : ℕ) : ℕ → List ℕ → Type 0 where
-  none : {t : ℕ} → t ≤ end → IsRising end t []
-  one : {t hour : ℕ} {hours : List ℕ} → t ≤ hour → hour < end → IsRising end (suc hour) hours → IsRising end t (hour ∷ hours)
-
-pub earlier : (end t u : ℕ) (hours : List ℕ) → t ≤ u → IsRising end u hours → IsRising end t hours
-earlier end t u [] h (none g) = none (omega arith)
-earlier end t u (hour ∷ hours) h (one a b more) = one (omega arith) b more
-
--- the hours that pass a test rise
-pub filter_rises : (p : ℕ → Bool) (t n : ℕ) → IsRising (t + n) t (filter p (upto t n))
-filter_rises p t zero = none (omega arith)
-filter_rises p t (suc n) =
-    let e : suc t + n ≡ t + suc n = omega arith in
-    let more : IsRising (t + suc n) (suc t) (filter p (upto (suc t) n)) = rw e at (filter_rises p (suc t) n) in
-    go (p t) more
-  where
-    go : (b : Bool) → IsRising (t + suc n) (suc t) (filter p (upto (suc t) n)) → IsRising (t + suc n) t (cond b (t ∷ filter p (upto (suc t) n)) (filter p (upto (suc t) n)))
-    go true more = one (omega arith) (omega arith) more
-    go false more = earlier _ t (suc t) _ (omega arith) more

@@ -1,15 +1,15 @@
 -- The test hours of a loop, and the tests of each, by the groups that are tested.
-use Rattle.std.proofs.Common.{◌≡◌, ℕ, ◌<◌, sym, ap, ◌∙◌, arith, List, [], ◌∷◌, refl, false}
+use Rattle.std.proofs.Common.{◌≡◌, ℕ, ◌<◌, sym, ap, ◌∙◌, arith, List, [], ◌∷◌, refl}
 use Rattle.std.specs.Prelude.{All, not, filter, map}
 use Rattle.sil_model.specs.LoopValue.{LoopValue, IsValid, IsWithin}
 use Rattle.sil_model.specs.Calendar.{Phase, tests_at, test_hours_of, is_empty, upto, phases_from, phases_of}
+use Rattle.schedule_laws.proofs.PhasesOfLoop.{phases_of_last}
 use Rattle.test_calendar.specs.declared.groups.GroupTest.{GroupTest}
 use Rattle.test_calendar.specs.Repeats.{Repeats}
 use Rattle.test_calendar.specs.GroupTests.{group_tests_at, spread_over}
 use Rattle.test_calendar.specs.Plans.{repeats_from, has_tests, tests_by}
 use Rattle.test_calendar.proofs.Steps.{filter_same, map_same}
-use Rattle.test_calendar.proofs.TestedGroups.{empty_from, from_as, any_empty, none_at_start}
-use Rattle.test_calendar.proofs.PhaseList.{phases_within}
+use Rattle.test_calendar.proofs.TestedGroups.{empty_from, from_as, any_empty}
 use Rattle.test_calendar.proofs.Spread.{spread_at}
 
 module _ (l : LoopValue) (v : IsValid l) where
@@ -32,10 +32,6 @@ module _ (l : LoopValue) (v : IsValid l) where
   pub spread_hours : map (spread_over l.subsystems) (map (group_tests_at l) (test_hours_of l)) ≡ map (tests_at l) (test_hours_of l)
   spread_hours = spread_map (test_hours_of l)
 
-  start_free : has_tests (repeats_from 0 0 l.subsystems) 0 ≡ false
-  unfolding has_tests
-  start_free = none_at_start 0 0 l.subsystems v.subsystems
-
   -- what was found for these groups and this mission
   module _ (rs : List Repeats) (mission : ℕ) (groups : rs ≡ repeats_from 0 0 l.subsystems) (same : mission ≡ l.mission) (hours : List ℕ) (found : hours ≡ filter (has_tests rs) (upto 0 mission)) where
     hours_found : hours ≡ test_hours_of l
@@ -46,7 +42,7 @@ module _ (l : LoopValue) (v : IsValid l) where
     phases_found = rw (same, hours_found) refl
 
     pub lasting : All (λ (p : Phase). IsWithin 1 350_400 p.hours) (phases_from mission 0 hours)
-    lasting = rw (found, groups, same) (phases_within l.mission (has_tests (repeats_from 0 0 l.subsystems)) v.mission.above v.mission.below start_free)
+    lasting = rw phases_found (phases_of_last l v)
 
     module _ (tests : List (List GroupTest)) (asked : tests ≡ map (tests_by rs) (filter (has_tests rs) (upto 0 mission))) where
       pub tests_found : tests ≡ map (group_tests_at l) (test_hours_of l)

@@ -114,21 +114,3 @@ any_empty t (r ∷ rs) = go (repeats_at t r) (any_empty t rs)
     go : (b : Bool) → not (is_empty (filter_map (test_by t) rs)) ≡ list_any (repeats_at t) rs → not (is_empty (cons_option (cond b (Some (record { group = r.group; full = is_full_at t r })) None) (filter_map (test_by t) rs))) ≡ (b || list_any (repeats_at t) rs)
     go true e = refl
     go false e = e
-
-none_first : (p : TestPlan) → 1 ≤ p.first → (g : ℕ) (xs : List Group) → list_any (repeats_at 0) (repeats_by_test (Some p) g xs) ≡ false
-none_first p h g [] = refl
-none_first p h g (x ∷ xs) = rw (lt-leb (first_test p x.first_channel) 0 (omega arith), none_first p h (suc g) xs) refl
-
--- no group is tested at the start
-pub none_at_start : (s g : ℕ) (us : List Subsystem) → All IsSubsystemInRange us → list_any (repeats_at 0) (repeats_from s g us) ≡ false
-none_at_start s g [] v = refl
-none_at_start s g (u ∷ us) v =
-    rw (
-      list_any-append (repeats_at 0) (repeats_by_test u.test g (groups_by_test s u.vote.n u.test)) (repeats_from (suc s) (g + length (groups_by_test s u.vote.n u.test)) us),
-      none_at_start (suc s) (g + length (groups_by_test s u.vote.n u.test)) us (All-tail IsSubsystemInRange u us v),
-    )
-    (rw (go u.test refl) refl)
-  where
-    go : (o : Option TestPlan) → u.test ≡ o → list_any (repeats_at 0) (repeats_by_test o g (groups_by_test s u.vote.n o)) ≡ false
-    go None e = refl
-    go (Some p) e = none_first p ((All-head IsSubsystemInRange u us v).test p e).first.above g (groups_by_test s u.vote.n (Some p))

@@ -7,7 +7,7 @@ use Rattle.sil_model.specs.Calendar.{Phase}
 use Rattle.test_calendar.specs.declared.groups.GroupTest.{GroupTest}
 use Rattle.test_calendar.specs.declared.hours.Stop.{Stop}
 use Rattle.test_calendar.specs.PlanParts.{PlanValue, plan_value, tests_of_stop, IsPlan}
-use Rattle.test_calendar.proofs.PhaseList.{length-phases, start-at, hours-at}
+use Rattle.schedule_laws.proofs.PhaseList.{length-phases, start-at, hours-at}
 
 past : {A : Type 0} (xs : List A) (i : ℕ) (d : A) → length xs ≤ i → get_or xs i d ≡ d
 past [] i d h = refl

@@ -7,6 +7,7 @@ use Rattle.sil_model.specs.declared.parts.Subsystem.{Subsystem}
 use Rattle.sil_model.specs.declared.parts.TestPlan.{TestPlan}
 use Rattle.sil_model.specs.LoopValue.{LoopValue, groups_by_test}
 use Rattle.sil_model.specs.Calendar.{ChannelTest, is_tested, is_full}
+use Rattle.count_laws.specs.GroupChannels.{GroupChannels, group_channels_of}
 use Rattle.test_calendar.specs.declared.groups.GroupTest.{GroupTest}
 
 module _ (mission t : ℕ) where
@@ -27,23 +28,6 @@ module _ (mission t : ℕ) where
 -- the group tests of the hour t, in order of groups
 unfoldable pub group_tests_at : LoopValue → ℕ → List GroupTest
 group_tests_at l t = group_tests_from l.mission t 0 0 l.subsystems
-
--- the channels of a group: the number of the first one in the loop, how many there are, and the chance that a test of one leaves a fault
-pub record GroupChannels : Type 0 where
-  pub first : ℕ
-  pub size : ℕ
-  pub fault : Fraction
-
--- those of each group of subsystems, numbered from i on, whose channels begin with c
-abbrev pub channels_from : ℕ → ℕ → List Subsystem → List GroupChannels
-channels_from i c [] = []
-channels_from i c (u ∷ us) =
-    map (λ x. record { first = c + x.first_channel; size = x.size; fault = ratio u.figures.restart_fault 1_000_000 }) (groups_by_test i u.vote.n u.test)
-    ++ channels_from (suc i) (c + u.vote.n) us
-
--- the channels of each group, in order of groups
-unfoldable pub group_channels_of : List Subsystem → List GroupChannels
-group_channels_of us = channels_from 0 0 us
 
 -- the tests of n channels from the number c on
 abbrev pub tests_of_channels : Bool → Fraction → ℕ → ℕ → List ChannelTest

@@ -90,18 +90,11 @@ fn add_plans(plans: &mut Vec<GroupPlan>, u: &Subsystem, group: u8) -> Result<u8,
     let Some(plan) = u.test else {
         return Ok(group + 1);
     };
-    let count = groups_with(&plan, u.vote.n);
+    let count = u.groups() as u8;
     for channel in 0..count {
         plans.push(group_plan(&plan, channel, group + channel))?;
     }
     Ok(group + count)
-}
-
-/// How many groups n channels with one test plan make.
-fn groups_with(plan: &TestPlan, n: u8) -> u8
-    ensures { (i : ℕ) → result ≡ length (groups_by_test i n (Some plan.now)) }
-{
-    if plan.stagger == 0 { 1 } else { n }
 }
 
 /// When a group is tested that begins with this channel of its subsystem.

@@ -2,7 +2,7 @@
 //! that are tested at each, and the beats of a phase.
 //!
 //! [`plan`] makes the calendar from the test plans, from one test hour to the next, and refuses a loop with more than
-//! 4,096 tests of channels before it works through them. [`channel_tests`] and [`beats_of`] only count, without memory.
+//! [`MOST_TESTS`](sil_model::MOST_TESTS) tests of channels before it works through them. [`channel_tests`] and [`beats_of`] only count, without memory.
 #![tactic(auto)]
 
 mod beats;

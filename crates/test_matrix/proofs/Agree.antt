@@ -10,11 +10,12 @@ use Rattle.sil_model.specs.Series.{Values}
 use Rattle.sil_model.specs.Calendar.{ChannelTest}
 use Rattle.sil_model.specs.Pay.{one_if}
 use Rattle.sil_model.specs.LoopValue.{groups_of}
-use Rattle.sil_model.specs.Sizes.{states_of}
+use Rattle.sil_model.specs.Sizes.{channel_states, states_of}
 use Rattle.sil_model.specs.Counts.{IsCounts, number_of}
 use Rattle.sil_model.specs.declared.parts.Group.{Group}
 use Rattle.sil_model.specs.declared.parts.Subsystem.{Subsystem}
-use Rattle.test_calendar.specs.GroupTests.{GroupChannels, group_channels_of, tests_of_channels, spread, spread_over}
+use Rattle.count_laws.specs.GroupChannels.{GroupChannels, group_channels_of}
+use Rattle.test_calendar.specs.GroupTests.{tests_of_channels, spread, spread_over}
 use Rattle.test_calendar.specs.declared.groups.GroupTest.{GroupTest}
 use Rattle.count_laws.specs.CountsOf.{counts_of}
 use Rattle.count_laws.specs.AfterTests.{after_tests}
@@ -27,7 +28,6 @@ use Rattle.lumped_laws.proofs.GroupChannels.{group_laws}
 use Rattle.lumped_laws.proofs.GroupCounts.{counted-valid}
 use Rattle.lumped_laws.proofs.States.{numbered-full, number-numbered}
 use Rattle.lumped_laws.proofs.TestHours.{after-full}
-use Rattle.channel_counts.specs.declared.TheConstants.{STATES}
 use Rattle.test_matrix.specs.Hours.{settled_of, table_list, hour_list, passing_by, AreReady, AreBelow, AreLikely, LackAtMost}
 use Rattle.test_matrix.specs.Places.{AreTables, AreNumbers, settled_counts}
 use Rattle.test_matrix.specs.Made.{channels_at, AreAllTables, AreVotes}
@@ -69,10 +69,10 @@ module _ (us : List Subsystem) (g : ℕ) (r : Fraction) (t : GroupTables) (are :
     abbrev post : List ℕ
     post = counts_of (drop (suc g) gs) b
 
-    long : length pre ≡ STATES * g
+    long : length pre ≡ channel_states * g
     long =
         let v : IsCounts (take g gs) pre = counted-valid (take g gs) a before in
-        omega (arith, v.four_each, length-take-le g gs (omega arith))
+        omega (arith, v.each, length-take-le g gs (omega arith))
 
     abbrev number_with : Tally → ℕ
     number_with u = number_of gs (filled g pre post long u)

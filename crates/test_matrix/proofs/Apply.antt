@@ -15,6 +15,15 @@ use Rattle.vector_laws.proofs.Weighing.{weigh-le, weigh-mul}
 use Rattle.test_matrix.specs.Rows.{row_at, IsBelow, IsWithinOne, LacksAtMost}
 use Rattle.test_matrix.specs.Spread.{walk, spread_sum, spread_mass, group_list}
 
+-- the rows make nothing
+pub mass_within : (rows : List (List ℕ)) (works v : List ℕ) → ((i : ℕ) → i < length v → get_or works i 0 < 9) → IsWithinOne rows
+    → spread_mass rows works (length v) v ≤ 2 ^ 48 * sum v
+unfolding spread_mass
+mass_within rows works v least most =
+    let each : sum_below (length v) (λ i. get_or v i 0 * sum_below (suc (get_or works i 0)) (row_at rows (get_or works i 0))) ≤ sum_below (length v) (λ i. 2 ^ 48 * get_or v i 0) =
+    sum-le (length v) _ _ (λ i h. omega (arith, mul-le-mul_left (get_or v i 0) (most (get_or works i 0) (least i h)))) in
+    omega (arith, each, ap (λ n. 2 ^ 48 * n) (sum_of v), sum-mul (length v) (2 ^ 48) (λ i. get_or v i 0))
+
 module _ (rows : List (List ℕ)) (works settled failed v sums after : List ℕ)
     (least : (i : ℕ) → i < length v → get_or works i 0 < 9)
     (same : length sums ≡ length v) (floors : AreFloors (2 ^ 48) sums after) where
@@ -74,15 +83,5 @@ module _ (rows : List (List ℕ)) (works settled failed v sums after : List ℕ)
     -- and that they make nothing
     pub makes_nothing : IsWithinOne rows → sum after ≤ sum v
     makes_nothing most =
-        let each : sum_below (length v) (λ i. get_or v i 0 * row_mass i) ≤ sum_below (length v) (λ i. 2 ^ 48 * get_or v i 0) =
-        sum-le (length v) _ _ (λ i h. omega (arith, mul-le-mul_left (get_or v i 0) (most (get_or works i 0) (least i h)))) in
         le_of_mul-le-mul_right {k = 2 ^ 48}
-        (omega (
-          arith,
-          each,
-          floor-most (2 ^ 48) (omega arith) sums after floors,
-          all_below,
-          ap (λ n. 2 ^ 48 * n) (sum_of v),
-          sum-mul (length v) (2 ^ 48) (λ i. get_or v i 0),
-        ))
-        (omega arith)
+        (omega (arith, mass_within rows works v least most, floor-most (2 ^ 48) (omega arith) sums after floors, all)) (omega arith)

@@ -4,6 +4,7 @@ use Rattle.std.specs.Prelude.{Bool, true, false, min, if◌then◌else◌}
 use Rattle.std.proofs.Math.Seq.{take-append_seam, drop-append_seam, get_or-append_right}
 use Rattle.std.proofs.lemmas.List.{take-append-le, drop-append-le, set-append_right}
 use mathlib.Core.Path.{fun_ext}
+use Rattle.sil_model.specs.Sizes.{channel_states}
 use Rattle.sil_model.specs.State.{FullState, is_same_chan}
 use Rattle.sil_model.specs.Counts.{count_in, place_of, with_count, moved_in}
 use Rattle.sil_model.specs.declared.parts.Chan.{Chan}
@@ -11,7 +12,6 @@ use Rattle.sil_model.specs.declared.parts.Chan.TheVariants.{Work, Hidden, Deep, 
 use Rattle.sil_model.specs.declared.parts.Group.{Group}
 use Rattle.count_laws.specs.CountsOf.{tally_of, counts_of}
 use Rattle.lumped_laws.specs.GroupLaws.{channels_over}
-use Rattle.channel_counts.specs.declared.TheConstants.{STATES}
 use Rattle.test_matrix.specs.Places.{all_moved, settled_counts, failed_counts}
 use Rattle.test_matrix.proofs.Parts.{Tally, tally, after_group}
 
@@ -36,14 +36,14 @@ along_part (y ∷ gs) (suc g) d a x b h l m =
 abbrev changed : Tally → Chan → ℕ → Tally
 changed t k v j = if is_same_chan j k then v else t j
 
-module _ (g : ℕ) (pre post : List ℕ) (long : length pre ≡ STATES * g) where
+module _ (g : ℕ) (pre post : List ℕ) (long : length pre ≡ channel_states * g) where
   abbrev pub filled : Tally → List ℕ
   filled t = pre ++ (counts_by t ++ post)
 
   pub count_in-filled : (t : Tally) (k : Chan) → count_in (filled t) g k ≡ t k
   count_in-filled t k =
-      let e : STATES * g + place_of k - length pre ≡ place_of k = omega arith in
-      get_or-append_right pre (counts_by t ++ post) (STATES * g + place_of k) 0 (omega arith) ∙ rw e (at k)
+      let e : channel_states * g + place_of k - length pre ≡ place_of k = omega arith in
+      get_or-append_right pre (counts_by t ++ post) (channel_states * g + place_of k) 0 (omega arith) ∙ rw e (at k)
     where
       at : (k : Chan) → get_or (counts_by t ++ post) (place_of k) 0 ≡ t k
       at Work = refl
@@ -53,8 +53,8 @@ module _ (g : ℕ) (pre post : List ℕ) (long : length pre ≡ STATES * g) wher
 
   with_count-filled : (t : Tally) (k : Chan) (v : ℕ) → with_count (filled t) g k v ≡ filled (changed t k v)
   with_count-filled t k v =
-      let e : STATES * g + place_of k - STATES * g ≡ place_of k = omega arith in
-      set-append_right pre (counts_by t ++ post) (STATES * g) (STATES * g + place_of k) v long (omega arith) ∙ rw e (ap (λ cs. pre ++ cs) (at k))
+      let e : channel_states * g + place_of k - channel_states * g ≡ place_of k = omega arith in
+      set-append_right pre (counts_by t ++ post) (channel_states * g) (channel_states * g + place_of k) v long (omega arith) ∙ rw e (ap (λ cs. pre ++ cs) (at k))
     where
       at : (k : Chan) → set (counts_by t ++ post) (place_of k) v ≡ counts_by (changed t k v) ++ post
       at Work = refl

@@ -5,7 +5,8 @@ use Rattle.sil_model.specs.LoopValue.{LoopValue}
 use Rattle.sil_model.specs.Calendar.{test_hours_of, tests_at}
 use Rattle.sil_model.specs.Figures.{no_phase}
 use Rattle.test_calendar.specs.GroupTests.{group_tests_at}
-use Rattle.test_calendar.proofs.PhasesOfLoop.{next_start, group_tests_inside}
+use Rattle.schedule_laws.proofs.PhasesOfLoop.{next_start}
+use Rattle.test_calendar.proofs.GroupNumbers.{group_tests_inside}
 use Rattle.test_calendar.proofs.Spread.{spread_at}
 use Rattle.test_matrix.specs.HourTests.{AreTestsOf, HourLaw}
 

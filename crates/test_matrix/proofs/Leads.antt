@@ -4,15 +4,14 @@ use Rattle.std.specs.Prelude.{Bool, true, false, min}
 use Rattle.sil_fraction.specs.Fraction.{Fraction}
 use Rattle.sil_model.specs.Series.{Values}
 use Rattle.sil_model.specs.LoopValue.{groups_of}
-use Rattle.sil_model.specs.Sizes.{states_of}
+use Rattle.sil_model.specs.Sizes.{channel_states, states_of}
 use Rattle.sil_model.specs.Counts.{IsCounts, count_in, number_of, counts_numbered}
 use Rattle.sil_model.specs.declared.parts.Chan.{Chan}
 use Rattle.sil_model.specs.declared.parts.Chan.TheVariants.{Work, Hidden, Deep, Repair}
 use Rattle.sil_model.specs.declared.parts.Group.{Group}
 use Rattle.sil_model.specs.declared.parts.Subsystem.{Subsystem}
 use Rattle.lumping.proofs.Moves.{IsCounts-moved_in}
-use Rattle.lumping.proofs.Numbering.{number_of-small, counts_numbered-number_of}
-use Rattle.channel_counts.specs.declared.TheConstants.{STATES}
+use Rattle.count_laws.proofs.Numbering.{number_of-small, counts_numbered-number_of}
 use Rattle.test_matrix.specs.Rows.{by_chance}
 use Rattle.test_matrix.specs.Spread.{walk, group_list}
 use Rattle.test_matrix.specs.Places.{all_moved, settled_counts, failed_counts, AreNumbers, AreWorking}
@@ -60,7 +59,7 @@ module _ (us : List Subsystem) (cs : List ℕ) (valid : IsCounts (groups_of us) 
 
 module _ (us : List Subsystem) (g : ℕ) (inside : g < length (groups_of us)) (full : Bool) (works settled failed : List ℕ)
     (working : AreWorking us g works) (settles : AreNumbers us (settled_counts full g) settled) (fails : AreNumbers us (failed_counts g) failed)
-    (pre post : List ℕ) (long : length pre ≡ STATES * g) (t : Tally) where
+    (pre post : List ℕ) (long : length pre ≡ channel_states * g) (t : Tally) where
   abbrev gs : List Group
   gs = groups_of us
 

@@ -2,6 +2,7 @@
 use Rattle.std.proofs.Common.{◌≡◌, ◌≢◌, ℕ, ◌+◌, ◌-◌, ◌*◌, ◌^◌, ◌<◌, ◌≤◌, List, length, refl, arith, get_or-set_other, length-set}
 use Rattle.std.specs.Prelude.{All}
 use Rattle.std.proofs.lemmas.List.Elements.{All-get_or}
+use Rattle.sil_model.specs.Sizes.{channel_states}
 use Rattle.sil_model.specs.Counts.{IsCounts, count_in, place_of, with_count, moved_in}
 use Rattle.sil_model.specs.declared.parts.Chan.{Chan}
 use Rattle.sil_model.specs.declared.parts.Chan.TheVariants.{Work, Hidden, Deep, Repair}
@@ -24,15 +25,15 @@ count-few gs cs g v h few Repair = omega (arith, v.sums g no_group h, All-get_or
 -- the count of another state of the group
 other : (cs : List ℕ) (g : ℕ) (k j : Chan) (v : ℕ) → place_of j ≢ place_of k → count_in (with_count cs g k v) g j ≡ count_in cs g j
 other cs g k j v ne =
-    let apart : 4 * g + place_of j ≢ 4 * g + place_of k = λ e. ne (omega (arith, e)) in
+    let apart : channel_states * g + place_of j ≢ channel_states * g + place_of k = λ e. ne (omega (arith, e)) in
     rw get_or-set_other refl
 
 -- when those that a partial test finds have moved, there is room for those that a full one finds
-pub room_for_deep : (cs : List ℕ) (g n : ℕ) → 4 * g + 4 ≤ length cs → ((k : Chan) → count_in cs g k ≤ 8) → n ≤ 8
+pub room_for_deep : (cs : List ℕ) (g n : ℕ) → channel_states * g + channel_states ≤ length cs → ((k : Chan) → count_in cs g k ≤ 8) → n ≤ 8
     → count_in (moved_in cs g Hidden Repair n) g Repair + count_in (moved_in cs g Hidden Repair n) g Deep < 2 ^ 8
 room_for_deep cs g n inside few h =
     let left : List ℕ = with_count cs g Hidden (count_in cs g Hidden - n) in
-    let inside_left : 4 * g + 4 ≤ length left = omega (arith, inside, length-set cs (4 * g + place_of Hidden) (count_in cs g Hidden - n)) in
+    let inside_left : channel_states * g + channel_states ≤ length left = omega (arith, inside, length-set cs (channel_states * g + place_of Hidden) (count_in cs g Hidden - n)) in
     omega (
       arith,
       few Repair,

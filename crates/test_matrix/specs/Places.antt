@@ -2,19 +2,18 @@
 use Rattle.std.specs.Prelude.{◌≡◌, ℕ, ◌*◌, ◌<◌, ◌≤◌, min, Bool, true, false, List, length, slice_index, All, if◌then◌else◌}
 use Rattle.sil_fraction.specs.Fraction.{Fraction}
 use Rattle.sil_model.specs.LoopValue.{groups_of}
-use Rattle.sil_model.specs.Sizes.{states_of}
+use Rattle.sil_model.specs.Sizes.{channel_states, states_of}
 use Rattle.sil_model.specs.Counts.{count_in, moved_in, number_of, counts_numbered}
 use Rattle.sil_model.specs.declared.parts.Chan.{Chan}
 use Rattle.sil_model.specs.declared.parts.Chan.TheVariants.{Work, Hidden, Deep, Repair}
 use Rattle.sil_model.specs.declared.parts.Group.{Group}
 use Rattle.sil_model.specs.declared.parts.Subsystem.{Subsystem}
-use Rattle.channel_counts.specs.declared.TheConstants.{STATES}
 use Rattle.test_matrix.specs.Rows.{AreWeights}
 use Rattle.test_matrix.specs.declared.places.GroupTables.{GroupTables}
 
 -- room for a count vector, and one of these groups, of which none is large
 pub record IsRoomy (gs : List Group) (g : ℕ) (counts : List ℕ) : Type 0 where
-  pub room : length counts ≡ STATES * length gs
+  pub room : length counts ≡ channel_states * length gs
   pub inside : g < length gs
   pub sizes : All (λ x. x.size ≤ 8) gs
 

@@ -10,9 +10,9 @@ ghost use Rattle.test_matrix.specs.Hours.{settled_of};
 ghost use Rattle.test_matrix.specs.Places.{IsRoomy, AreNumbers, AreWorking, settled_counts, failed_counts, AreTables};
 
 use crate::weights::weights;
-use channel_counts::{STATES, count_in, move_in};
+use channel_counts::{count_in, move_in};
 use lumping::Space;
-use sil_model::Chan;
+use sil_model::{CHANNEL_STATES, Chan};
 use std::alloc::{AllocError, Global};
 
 /// The tables of a group: the weights with which its channels fail, and by the number of a count vector how many of its
@@ -127,7 +127,7 @@ fn failed(
 
 /// Sends the channels of a group that their tests find to Repair.
 fn settle(counts: &mut [u8], g: usize, full: bool)
-    requires group { STATES * (g + 1) ≤ length counts.old }
+    requires group { CHANNEL_STATES * (g + 1) ≤ length counts.old }
     requires room { (k : Chan) → count_in counts.old g k ≤ 8 }
     ensures { counts.new ≡ settled_counts full g counts.old }
 {
@@ -141,7 +141,7 @@ fn settle(counts: &mut [u8], g: usize, full: bool)
 
 /// Lets a working channel of a group fail, if one works.
 fn fail(counts: &mut [u8], g: usize)
-    requires group { STATES * (g + 1) ≤ length counts.old }
+    requires group { CHANNEL_STATES * (g + 1) ≤ length counts.old }
     requires room { (k : Chan) → count_in counts.old g k ≤ 8 }
     ensures { counts.new ≡ failed_counts g counts.old }
 {

@@ -4,6 +4,7 @@ ghost use Rattle.std.specs.Prelude.{◌≡◌, ℕ, suc, ◌+◌, ◌*◌, ◌/�
 ghost use Rattle.sil_fraction.specs.Fraction.{Fraction, ◌+ℚ◌, ◌*ℚ◌, ◌≤ℚ◌, whole};
 ghost use Rattle.sil_fraction.specs.Sum.{total_below, sum_below};
 ghost use Rattle.sil_model.specs.Series.{Values};
+ghost use Rattle.sil_model.specs.Sizes.{most_states};
 ghost use Rattle.interval_fixed.specs.DotValue.{DotValue};
 ghost use Rattle.test_matrix.specs.Rows.{row_at, IsBelow, IsWithinOne, LacksAtMost};
 ghost use Rattle.vector_laws.specs.Laws.{AreFloors};
@@ -20,13 +21,13 @@ pub fn test_group<L: Ledger>(
     works: &[usize],
     settled: &[usize],
     failed: &[usize],
-    v: &mut [u128],
+    v: &mut [u64],
     sums: &mut [Dot],
     steps: &mut Steps<L>,
 )
     requires tables { IsFit (length v.old) works.now settled.now failed.now }
     requires sums { length sums.old ≡ length v.old }
-    requires few { length v.old ≤ 4096 }
+    requires few { length v.old ≤ most_states }
     requires rows { IsWithinOne rows.now }
     requires mass { sum v.old ≤ 2 ^ 48 }
     ensures encloses { (r : Fraction) → IsBelow rows.now r
@@ -56,13 +57,13 @@ fn spread_all<L: Ledger>(
     works: &[usize],
     settled: &[usize],
     failed: &[usize],
-    v: &[u128],
+    v: &[u64],
     sums: &mut [Dot],
     steps: &mut Steps<L>,
 )
     requires tables { IsFit (length v.now) works.now settled.now failed.now }
     requires sums { length sums.old ≡ length v.now }
-    requires few { length v.now ≤ 4096 }
+    requires few { length v.now ≤ most_states }
     requires rows { IsWithinOne rows.now }
     requires mass { sum v.now ≤ 2 ^ 48 }
     requires empty { (j : ℕ) (d : DotValue) → j < length sums.old → slice_index_or sums.old j d ≡ record { sum = 0; number = 0 } }
@@ -83,7 +84,7 @@ fn add_spread<L: Ledger>(
     works: usize,
     failed: &[usize],
     place: usize,
-    x: u128,
+    x: u64,
     sums: &mut [Dot],
     steps: &mut Steps<L>,
 )
@@ -112,7 +113,7 @@ fn add_spread<L: Ledger>(
 }
 
 /// Adds a product to the sum at a place.
-fn add_at<L: Ledger>(sums: &mut [Dot], at: usize, a: u128, b: u128, steps: &mut Steps<L>)
+fn add_at<L: Ledger>(sums: &mut [Dot], at: usize, a: u64, b: u128, steps: &mut Steps<L>)
     requires place { at < length sums.old }
     requires first { a ≤ 2 ^ 48 }
     requires second { b ≤ 2 ^ 48 }
@@ -121,15 +122,16 @@ fn add_at<L: Ledger>(sums: &mut [Dot], at: usize, a: u128, b: u128, steps: &mut 
         ≡ slice_set sums.old at (record { sum = (slice_index_or sums.old at d).sum + a * b; number = (slice_index_or sums.old at d).number + 1 }) }
     ensures count { steps.new ≡ steps.old + 1 }
 {
-    sums[at].add_product(a, b, steps);
+    sums[at].add_product(u128::from(a), b, steps);
 }
 
 /// The sums in whole units.
-fn round_down(sums: &[Dot], v: &mut [u128])
-    requires { length sums.now ≡ length v.old }
+fn round_down(sums: &[Dot], v: &mut [u64])
+    requires room { length sums.now ≡ length v.old }
+    requires small { sum (sums_of sums.now) ≤ 2 ^ 96 }
     ensures { AreFloors (2 ^ 48) (sums_of sums.now) v.new }
 {
     for j in 0..v.len() {
-        v[j] = sums[j].down();
+        v[j] = sums[j].down() as u64;
     }
 }

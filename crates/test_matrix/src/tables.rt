@@ -14,10 +14,9 @@ ghost use Rattle.test_matrix.specs.Made.{AreVotes, AreAllTables};
 
 use crate::places::{GroupTables, group_tables};
 use crate::whole::{Passed, test_hour};
-use channel_counts::STATES;
 use interval_fixed::Dot;
 use lumping::Space;
-use sil_model::{Loop, Steps};
+use sil_model::{CHANNEL_STATES, Loop, Steps};
 use std::alloc::{AllocError, Global};
 use std::marker::Model;
 use std::snapshot::Snapshot;
@@ -34,7 +33,7 @@ pub struct Tests {
     tested: Snapshot<Loop>,
     groups: Vec<GroupTables>,
     is_up: Vec<bool>,
-    down: Vec<u128>,
+    down: Vec<u64>,
     sums: Vec<Dot>,
 }
 
@@ -56,13 +55,13 @@ impl Tests {
         requires { space.now ≡ l.now }
         ensures { IfOk result (λ t. t ≡ l.now) }
     {
-        let mut counts = vec![in alloc; 0u8; STATES * l.groups()]?;
+        let mut counts = vec![in alloc; 0u8; CHANNEL_STATES * l.groups()]?;
         let size = space.size();
         Ok(Tests {
             tested: Snapshot::of(l),
             groups: all_tables(alloc, l, space, &mut counts)?,
             is_up: votes(alloc, l, space, &mut counts)?,
-            down: vec![in alloc; 0u128; size]?,
+            down: vec![in alloc; 0; size]?,
             sums: no_sums(alloc, size)?,
         })
     }
@@ -72,7 +71,7 @@ impl Tests {
     pub fn apply<L: Ledger>(
         &mut self,
         tests: &[GroupTest],
-        v: &mut [u128],
+        v: &mut [u64],
         steps: &mut Steps<L>,
     ) -> Passed
         requires exist { Exist self.old.subsystems tests.now }
@@ -114,7 +113,7 @@ fn all_tables(
     counts: &mut [u8],
 ) -> Result<Vec<GroupTables>, AllocError>
     requires space { space.now ≡ l.now }
-    requires length { length counts.old ≡ STATES * length (groups_of l.now.subsystems) }
+    requires length { length counts.old ≡ CHANNEL_STATES * length (groups_of l.now.subsystems) }
     ensures { IfOk result (λ v. AreAllTables l.now.subsystems v.items) }
 {
     // The values of a loop are in their ranges.
@@ -134,7 +133,7 @@ fn all_tables(
 /// Whether the loop is up at each count vector.
 fn votes(alloc: Global, l: &Loop, space: &Space, counts: &mut [u8]) -> Result<Vec<bool>, AllocError>
     requires space { space.now ≡ l.now }
-    requires length { length counts.old ≡ STATES * length (groups_of l.now.subsystems) }
+    requires length { length counts.old ≡ CHANNEL_STATES * length (groups_of l.now.subsystems) }
     ensures { IfOk result (λ v. AreVotes l.now.subsystems v.items) }
 {
     let size = space.size();

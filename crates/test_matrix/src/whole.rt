@@ -3,6 +3,7 @@
 ghost use Rattle.std.specs.Prelude.{◌≡◌, ℕ, ◌+◌, ◌-◌, ◌*◌, ◌^◌, ◌<◌, ◌≤◌, length, slice_index_or, sum};
 ghost use Rattle.sil_fraction.specs.Fraction.{Fraction, ◌-ℚ◌, ◌≤ℚ◌, whole};
 ghost use Rattle.sil_model.specs.Series.{Values};
+ghost use Rattle.sil_model.specs.Sizes.{most_states};
 ghost use Rattle.test_matrix.specs.Rows.{IsBelow, LacksAtMost};
 ghost use Rattle.vector_laws.specs.Vectors.{weigh};
 ghost use Rattle.test_matrix.specs.Halves.{number_if};
@@ -32,13 +33,13 @@ pub fn test_hour<L: Ledger>(
     groups: &[GroupTables],
     is_up: &[bool],
     tests: &[GroupTest],
-    v: &mut [u128],
-    down: &mut [u128],
+    v: &mut [u64],
+    down: &mut [u64],
     sums: &mut [Dot],
     steps: &mut Steps<L>,
 ) -> Passed
     requires ready { AreReady (length v.old) groups.now }
-    requires few { length v.old ≤ 4096 }
+    requires few { length v.old ≤ most_states }
     requires exist { (k : ℕ) (d : GroupTest) → k < length tests.now → (slice_index_or tests.now k d).group < length groups.now }
     requires is_up { length is_up.now ≡ length v.old }
     requires down { length down.old ≡ length v.old }
@@ -63,7 +64,7 @@ pub fn test_hour<L: Ledger>(
 }
 
 /// Leaves in `v` what is where the loop is up, and moves the rest to `down`.
-fn split(is_up: &[bool], v: &mut [u128], down: &mut [u128])
+fn split(is_up: &[bool], v: &mut [u64], down: &mut [u64])
     requires is_up { length is_up.now ≡ length v.old }
     requires down { length down.old ≡ length v.old }
     ensures { IsSplit is_up.now v.old v.new down.new }
@@ -82,13 +83,13 @@ fn split(is_up: &[bool], v: &mut [u128], down: &mut [u128])
 fn test_groups<L: Ledger>(
     groups: &[GroupTables],
     tests: &[GroupTest],
-    up: &mut [u128],
-    down: &mut [u128],
+    up: &mut [u64],
+    down: &mut [u64],
     sums: &mut [Dot],
     steps: &mut Steps<L>,
 )
     requires ready { AreReady (length up.old) groups.now }
-    requires few { length up.old ≤ 4096 }
+    requires few { length up.old ≤ most_states }
     requires exist { (k : ℕ) (d : GroupTest) → k < length tests.now → (slice_index_or tests.now k d).group < length groups.now }
     requires down { length down.old ≡ length up.old }
     requires sums { length sums.old ≡ length up.old }
@@ -112,13 +113,13 @@ fn test_groups<L: Ledger>(
 fn test_both<L: Ledger>(
     tables: &GroupTables,
     full: bool,
-    up: &mut [u128],
-    down: &mut [u128],
+    up: &mut [u64],
+    down: &mut [u64],
     sums: &mut [Dot],
     steps: &mut Steps<L>,
 )
     requires ready { IsReady (length up.old) tables.now }
-    requires few { length up.old ≤ 4096 }
+    requires few { length up.old ≤ most_states }
     requires down { length down.old ≡ length up.old }
     requires sums { length sums.old ≡ length up.old }
     requires mass { sum up.old + sum down.old ≤ 2 ^ 48 }
@@ -139,7 +140,7 @@ fn test_both<L: Ledger>(
 }
 
 /// Sums up what has passed from up to down and what has not, and puts both parts together in `up`.
-fn close(is_up: &[bool], up: &mut [u128], down: &[u128]) -> Passed
+fn close(is_up: &[bool], up: &mut [u64], down: &[u64]) -> Passed
     requires is_up { length is_up.now ≡ length up.old }
     requires down { length down.now ≡ length up.old }
     requires mass { sum up.old + sum down.now ≤ 2 ^ 48 }
@@ -151,13 +152,13 @@ fn close(is_up: &[bool], up: &mut [u128], down: &[u128]) -> Passed
     let rest = total(down);
     join(up, down);
     Passed {
-        lo: passed,
-        hi: ONE - (stays + rest),
+        lo: u128::from(passed),
+        hi: ONE - u128::from(stays + rest),
     }
 }
 
 /// How much of a vector is where the loop is up, and how much where it is down.
-fn sides(is_up: &[bool], v: &[u128]) -> (u128, u128)
+fn sides(is_up: &[bool], v: &[u64]) -> (u64, u64)
     requires is_up { length is_up.now ≡ length v.now }
     requires mass { sum v.now ≤ 2 ^ 48 }
     ensures up { result.0 ≡ mass_up is_up.now v.now }
@@ -173,14 +174,14 @@ fn sides(is_up: &[bool], v: &[u128]) -> (u128, u128)
 }
 
 /// The number, where it counts.
-fn counted(counts: bool, x: u128) -> u128
+fn counted(counts: bool, x: u64) -> u64
     ensures { result ≡ number_if counts x }
 {
     if counts { x } else { 0 }
 }
 
 /// The sum of a vector.
-fn total(v: &[u128]) -> u128
+fn total(v: &[u64]) -> u64
     requires { sum v.now ≤ 2 ^ 48 }
     ensures { result ≡ sum v.now }
 {
@@ -188,7 +189,7 @@ fn total(v: &[u128]) -> u128
 }
 
 /// Adds one part of a vector to the other.
-fn join(v: &mut [u128], part: &[u128])
+fn join(v: &mut [u64], part: &[u64])
     requires room { length part.now ≡ length v.old }
     requires mass { sum v.old + sum part.now ≤ 2 ^ 48 }
     ensures { IsJoined v.old part.now v.new }

@@ -9,8 +9,8 @@ use Rattle.sil_model.specs.Series.{Values, beat_of, mean_of}
 use Rattle.model_laws.specs.Polynomial.{IsBelow, in_units}
 use Rattle.model_laws.proofs.Beats.{below_one_beat}
 use Rattle.vector_laws.proofs.Masses.{sum-zeros}
-use Rattle.block_laws.specs.Block.{StayBelow, tail_at, IsGathered}
-use Rattle.block_laws.specs.BlockLaws.{lacking}
+use Rattle.vector_laws.specs.Block.{StayBelow, tail_at, IsGathered}
+use Rattle.vector_laws.specs.BlockLaws.{lacking}
 use Rattle.sil_model.specs.WeightTable.{weight_of, mean_weight_of, missing_of}
 use Rattle.series_weights.proofs.Below.{below_term, in_units-small}
 use Rattle.series_weights.proofs.Sums.{weight_zero, missing_rest, means_are_many}

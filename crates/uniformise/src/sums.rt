@@ -7,12 +7,7 @@ use sil_model::Steps;
 use std::sync::ledger::Ledger;
 
 /// Adds a multiple of a vector to the sums.
-pub fn add_products<L: Ledger>(
-    sums: &mut [u128],
-    weight: u64,
-    vector: &[u128],
-    steps: &mut Steps<L>,
-)
+pub fn add_products<L: Ledger>(sums: &mut [u128], weight: u64, vector: &[u64], steps: &mut Steps<L>)
     requires size { length sums.old ≡ length vector.now }
     requires mass { sum vector.now ≤ 2 ^ 48 }
     requires room { sum sums.old + weight * sum vector.now < 2 ^ 128 }
@@ -20,19 +15,19 @@ pub fn add_products<L: Ledger>(
     ensures steps { steps.new ≡ steps.old + length vector.now }
 {
     for k in 0..vector.len() {
-        // No number is above 2^48, so one product of two machine words is enough.
-        sums[k] += u128::from(weight) * u128::from(vector[k] as u64);
+        sums[k] += u128::from(weight) * u128::from(vector[k]);
         steps.count_one();
     }
 }
 
 /// The sums in whole units, rounded down.
-pub fn round_down(sums: &[u128], to: &mut [u128])
+pub fn round_down(sums: &[u128], to: &mut [u64])
     requires size { length to.old ≡ length sums.now }
+    requires small { (k : ℕ) → k < length sums.now → slice_index sums.now k ≤ 2 ^ 96 }
     ensures { AreFloors (2 ^ 48) sums.now to.new }
 {
     for k in 0..sums.len() {
-        to[k] = sums[k] >> 48;
+        to[k] = (sums[k] >> 48) as u64;
     }
 }
 

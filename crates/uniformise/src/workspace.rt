@@ -7,7 +7,7 @@ ghost use Rattle.sil_model.specs.Sizes.{states_of};
 ghost use Rattle.vector_laws.specs.Vectors.{weigh, IsMass};
 ghost use Rattle.lumped_laws.specs.ValueLists.{beat_list, mean_list};
 ghost use Rattle.sil_model.specs.WeightTable.{weight_of, mean_weight_of};
-ghost use Rattle.block_laws.specs.Block.{IsTick, IsGathered};
+ghost use Rattle.vector_laws.specs.Block.{IsTick, IsGathered};
 ghost use Rattle.uniformise.specs.Beat.{hours_of_beat, IsStep, tick_loss, vector_loss, dwell_loss, tick_products, beat_products};
 
 use crate::sums::{add_products, add_rounded_down, round_down};
@@ -22,8 +22,8 @@ use std::sync::ledger::Ledger;
 /// Room for the beats of vectors of one size. Contracts see it as the size.
 #[derive(Drop)]
 pub struct Workspace {
-    now: Vec<u128>,
-    next: Vec<u128>,
+    now: Vec<u64>,
+    next: Vec<u64>,
     ends: Vec<u128>,
     stays: Vec<u128>,
 }
@@ -44,8 +44,8 @@ impl Workspace {
     pub fn new(alloc: Global, size: usize) -> Result<Workspace, AllocError>
         ensures { IfOk result (λ w. w ≡ size) }
     {
-        let now = vec![in alloc; 0u128; size]?;
-        let next = vec![in alloc; 0u128; size]?;
+        let now = vec![in alloc; 0u64; size]?;
+        let next = vec![in alloc; 0u64; size]?;
         let ends = vec![in alloc; 0u128; size]?;
         let stays = vec![in alloc; 0u128; size]?;
         Ok(Workspace {
@@ -64,7 +64,7 @@ impl Workspace {
         &mut self,
         chain: &Chain,
         weights: &Weights,
-        v: &mut [u128],
+        v: &mut [u64],
         dwell: &mut [u128],
         steps: &mut Steps<L>,
     )
@@ -108,8 +108,8 @@ impl Workspace {
 fn gather<L: Ledger>(
     chain: &Chain,
     weights: &Weights,
-    now: &mut Vec<u128>,
-    next: &mut Vec<u128>,
+    now: &mut Vec<u64>,
+    next: &mut Vec<u64>,
     ends: &mut [u128],
     stays: &mut [u128],
     steps: &mut Steps<L>,
@@ -139,7 +139,7 @@ fn gather<L: Ledger>(
 
 /// One tick in place; `next` is room for it.
 #[tactic(auto, unfolding(sil_model::specs::Budget::lumped_events_of))]
-fn step<L: Ledger>(chain: &Chain, now: &mut Vec<u128>, next: &mut Vec<u128>, steps: &mut Steps<L>)
+fn step<L: Ledger>(chain: &Chain, now: &mut Vec<u64>, next: &mut Vec<u64>, steps: &mut Steps<L>)
     requires now { vec_len now.old ≡ states_of chain.now.of.subsystems }
     requires next { vec_len next.old ≡ states_of chain.now.of.subsystems }
     requires mass { IsMass now.old.items }

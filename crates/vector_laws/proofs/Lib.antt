@@ -1,3 +1,9 @@
 pub mod Masses
 pub mod Weighing
 pub mod Floors
+pub mod RowVectors
+pub mod Sums
+pub mod Moments
+pub mod Ticks
+pub mod Blocks
+pub mod Phases

@@ -1,2 +1,6 @@
 pub mod Vectors
 pub mod Laws
+pub mod Matrix
+pub mod Rows
+pub mod Block
+pub mod BlockLaws

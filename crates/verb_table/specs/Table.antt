@@ -45,14 +45,27 @@ mode = record { name = codes "mode"; values = one_of (codes "low" ∷ codes "hig
 abbrev pub series : Choice
 series = record { name = codes "series"; values = nothing; is_required = false; meaning = Watch Series }
 
+-- the options and flags of a verb that answers with a loop's figures
+abbrev pub of_figures : List Choice
+of_figures = need ∷ mode ∷ series ∷ []
+
+-- the row of each verb
+
+abbrev pub check_row : Row
+check_row = record { verb = Check; word = codes "check"; positional = Name; choices = of_figures }
+
+abbrev pub size_row : Row
+size_row = record { verb = Size; word = codes "size"; positional = Name; choices = [] }
+
+abbrev pub gen_row : Row
+gen_row = record { verb = Gen; word = codes "gen"; positional = Number; choices = [] }
+
+abbrev pub bench_row : Row
+bench_row = record { verb = Bench; word = codes "bench"; positional = Number; choices = of_figures }
+
 -- the verbs, in the order of the usage text
 unfoldable pub verb_table : List Row
-verb_table =
-    record { verb = Check; word = codes "check"; positional = Name; choices = need ∷ mode ∷ series ∷ [] }
-    ∷ record { verb = Size; word = codes "size"; positional = Name; choices = [] }
-    ∷ record { verb = Gen; word = codes "gen"; positional = Number; choices = [] }
-    ∷ record { verb = Bench; word = codes "bench"; positional = Number; choices = need ∷ mode ∷ series ∷ [] }
-    ∷ []
+verb_table = check_row ∷ size_row ∷ gen_row ∷ bench_row ∷ []
 
 -- what is read from the table
 

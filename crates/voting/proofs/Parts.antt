@@ -5,13 +5,14 @@ use Rattle.std.proofs.lemmas.Bool.{le-leb, lt-leb}
 use Rattle.std.proofs.Math.ListN.{drop_of_length-le}
 use Rattle.sil_model.specs.State.{FullState, count_of, counting_of, is_up_of}
 use Rattle.sil_model.specs.LoopValue.{groups_of, groups_from, groups_by_test}
+use Rattle.sil_model.specs.Sizes.{channel_states}
 use Rattle.sil_model.specs.Counts.{IsCounts}
 use Rattle.sil_model.specs.declared.parts.Chan.TheVariants.{Work, Hidden, Deep, Repair}
 use Rattle.sil_model.specs.declared.parts.InRepair.{InRepair}
 use Rattle.sil_model.specs.declared.parts.InRepair.TheVariants.{Lost, Tripped}
 use Rattle.sil_model.specs.declared.parts.Subsystem.{Subsystem}
 use Rattle.sil_model.specs.declared.parts.Group.{Group}
-use Rattle.count_laws.specs.CountsOf.{counts_of}
+use Rattle.lumped_laws.specs.CountsOf.{counts_of}
 use Rattle.lumped_laws.specs.CountsOfState.{counts_of_state}
 use Rattle.channel_counts.proofs.Counting.{At, channels_in, summed, drop_drop}
 use Rattle.channel_counts.proofs.Subsystems.{AtSubsystem, at_start, at_here, at_next, groups_within, subsystems-here, channels-by_test}
@@ -81,8 +82,8 @@ module _ (us : List Subsystem) (cs : List ℕ) (i first : ℕ) (u d : Subsystem)
           rw (add-one i) (is_up ∙ ap (is_up_of (drop (suc i) us)) (drop_drop p.channel u.vote.n (p.channel + u.vote.n) s refl));
     }
 
-  pub turn-within : (n : ℕ) → n ≡ length (groups_by_test i u.vote.n u.test) → IsCounts (groups_of us) cs → 4 * (first + n) ≤ length cs
-  turn-within n many v = omega (arith, v.four_each, many, groups_within us i first p.channel u d inside is p.at)
+  pub turn-within : (n : ℕ) → n ≡ length (groups_by_test i u.vote.n u.test) → IsCounts (groups_of us) cs → channel_states * (first + n) ≤ length cs
+  turn-within n many v = omega (arith, v.each, many, groups_within us i first p.channel u d inside is p.at)
 
 pub none-left : (us : List Subsystem) (cs : List ℕ) (i first : ℕ) → length us ≤ i → IsLeft us cs i first → (s : FullState) → counts_of_state us s ≡ cs
     → true ≡ is_up_of us s

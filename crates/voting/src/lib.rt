@@ -8,10 +8,10 @@ ghost use Rattle.sil_model.specs.Counts.{IsCounts};
 ghost use Rattle.lumped_laws.specs.CountsOfState.{counts_of_state};
 ghost use Rattle.voting.specs.Counting.{counting_in};
 
-use channel_counts::{STATES, groups_in, sum_in};
-use sil_model::{Chan, InRepair, Loop};
+use channel_counts::sum_in;
+use sil_model::{CHANNEL_STATES, Chan, InRepair, Loop};
 
-/// Whether the loop is up in every full state with these counts, four for each group.
+/// Whether the loop is up in every full state with these counts.
 pub fn is_up(l: &Loop, counts: &[u8]) -> bool
     requires { IsCounts (groups_of l.now.subsystems) counts.now }
     ensures { (s : FullState) → counts_of_state l.now.subsystems s ≡ counts.now → result ≡ is_up_of l.now.subsystems s }
@@ -19,7 +19,7 @@ pub fn is_up(l: &Loop, counts: &[u8]) -> bool
     let mut first = 0;
     for i in 0..l.len() {
         let u = l.subsystem(i);
-        let groups = groups_in(u);
+        let groups = u.groups();
         if counting_in(counts, first, groups, u.in_repair) < usize::from(u.vote.m) {
             return false;
         }
@@ -31,7 +31,7 @@ pub fn is_up(l: &Loop, counts: &[u8]) -> bool
 /// How many channels of the `n` groups from `first` on count as working.
 fn counting_in(counts: &[u8], first: usize, n: usize, in_repair: InRepair) -> usize
     requires few { n ≤ 48 }
-    requires inside { STATES * (first + n) ≤ length counts.now }
+    requires inside { CHANNEL_STATES * (first + n) ≤ length counts.now }
     ensures { result ≡ counting_in in_repair counts.now first n }
 {
     let working = sum_in(counts, first, n, Chan::Work);

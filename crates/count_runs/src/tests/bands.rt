@@ -1,10 +1,10 @@
-//! The bands at their edges.
+//! The bands at their edges, and the levels that they meet.
 
 use sil_bands::{meets, pfd_band, pfh_band};
 use sil_model::{Band, Decimal18};
 
 #[test]
-fn bands_hold_their_lower_ends_alone(rt: HostRuntime) {
+fn bands_at_their_edges_and_what_they_meet(rt: HostRuntime) {
     let sil4 = 10_000_000_000_000u128;
     let pfd = [
         (0, sil4 - 1, Band::Beyond4),
@@ -34,11 +34,7 @@ fn bands_hold_their_lower_ends_alone(rt: HostRuntime) {
         assert!(rt; lo <= hi && hi < 10_000_000_000_000_000_000);
         assert_eq!(rt; pfh_band(Decimal18 { lo, hi }), band, "{lo} .. {hi}");
     }
-}
-
-#[test]
-fn a_band_meets_what_it_shows(rt: HostRuntime) {
-    let cases = [
+    let levels = [
         (Band::Beyond4, 4),
         (Band::Sil4, 4),
         (Band::Sil3, 3),
@@ -47,7 +43,7 @@ fn a_band_meets_what_it_shows(rt: HostRuntime) {
         (Band::NoSil, 0),
         (Band::Undecided, 0),
     ];
-    for (band, most) in cases {
+    for (band, most) in levels {
         for need in 1..=4u8 {
             assert_eq!(rt; meets(band, need), need <= most, "{band:?} {need}");
         }

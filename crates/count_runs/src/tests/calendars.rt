@@ -20,11 +20,19 @@ const fn tested(n: u8, first: u32, every: u32, stagger: u32, full_each: u32) -> 
     }
 }
 
-/// Missions with how many channels are tested in them, the phases, and the hour at which the last one begins.
+/// Two channels of which one suffices, without tests.
+const UNTESTED_PAIR: Sample = Sample {
+    vote: Vote { m: 1, n: 2 },
+    ..ONE_CHANNEL
+};
+
+/// Missions with how many channels are tested in them, the phases, and the hour at which the last one begins; at the end a
+/// mission with one test too many.
 #[test]
 fn test_hours_cut_the_mission(rt: HostRuntime) -> Result<(), Fail> {
     let alloc = rt.alloc();
-    let rows: [(Sample, u32, u64, usize, u64); 8] = [
+    let rows: [(Sample, u32, u64, usize, u64); 9] = [
+        (UNTESTED_PAIR, 8760, 0, 1, 0),
         (tested(1, 8760, 8760, 0, 1), 26_280, 2, 3, 17_520),
         // two channels, tested half a year apart
         (tested(2, 8760, 8760, 4380, 1), 26_280, 4, 5, 21_900),
@@ -46,32 +54,12 @@ fn test_hours_cut_the_mission(rt: HostRuntime) -> Result<(), Fail> {
         let last = plan.phases() - 1;
         assert_eq!(rt; plan.start(last), last_start);
         assert_eq!(rt; plan.hours(last), u64::from(mission).abs_diff(last_start));
+        assert_eq!(rt; plan.tests_after(last).len(), 0);
     }
-    Ok(())
-}
-
-#[test]
-fn no_test_leaves_one_phase(rt: HostRuntime) -> Result<(), Fail> {
-    let pair = Sample {
-        vote: Vote { m: 1, n: 2 },
-        ..ONE_CHANNEL
-    };
-    let l = sample_loop(rt.alloc(), 8760, &[pair])?.ok_or("out of range")?;
-    let plan = plan(rt.alloc(), &l)?;
-    assert_eq!(rt; plan.phases(), 1);
-    assert_eq!(rt;
-        (plan.start(0), plan.hours(0), plan.tests_after(0).len()),
-        (0, 8760, 0)
-    );
-    Ok(())
-}
-
-#[test]
-fn one_test_too_many_is_refused(rt: HostRuntime) -> Result<(), Fail> {
-    let l = sample_loop(rt.alloc(), 4098, &[tested(1, 1, 1, 0, 1)])?.ok_or("out of range")?;
+    let l = sample_loop(alloc, 4098, &[tested(1, 1, 1, 0, 1)])?.ok_or("out of range")?;
     assert!(rt;
         matches!(
-            plan(rt.alloc(), &l),
+            plan(alloc, &l),
             Err(PlanFault::Limit(LimitFault::TooManyTests(4097)))
         )
     );
@@ -90,7 +78,6 @@ fn each_third_test_is_full(rt: HostRuntime) -> Result<(), Fail> {
             [GroupTest { group: 0, full }].as_slice()
         );
     }
-    assert_eq!(rt; plan.tests_after(4).len(), 0);
     Ok(())
 }
 

@@ -2,7 +2,7 @@
 
 use lumping::{Space, SpaceFault};
 use sample_loops::{ONE_CHANNEL, Sample, YEARLY, sample_loop};
-use sil_model::{LimitFault, TestPlan, Vote};
+use sil_model::{CHANNEL_STATES, LimitFault, TestPlan, Vote};
 use std::test::Fail;
 
 /// So many channels that are tested together.
@@ -27,7 +27,7 @@ fn refused(states: u128) -> SpaceFault {
 }
 
 #[test]
-fn only_more_than_4096_states_are_refused(rt: HostRuntime) -> Result<(), Fail> {
+fn only_more_states_than_the_limit_are_refused(rt: HostRuntime) -> Result<(), Fail> {
     let alloc = rt.alloc();
     let (sensors, logic, valves) = (channels(2, 3), channels(1, 1), channels(1, 2));
     let six = staggered(6, 10);
@@ -66,7 +66,7 @@ fn each_number_has_its_count_vector(rt: HostRuntime) -> Result<(), Fail> {
         return Err("no space".into());
     };
     let mut counts = [0u8; 12];
-    assert_eq!(rt; 4 * l.groups(), counts.len());
+    assert_eq!(rt; CHANNEL_STATES * l.groups(), counts.len());
     for i in 0..space.size() {
         space.counts_at(i, &mut counts);
         assert_eq!(rt; space.rank(&counts), i);

@@ -121,16 +121,14 @@ fn are_events(alloc: Global, samples: &[Sample], expected: &[LumpEvent]) -> Resu
 }
 
 #[test]
-fn one_channel(rt: HostRuntime) -> Result<(), Fail> {
-    let mut expected = Vec::new(rt.alloc());
-    expected.extend_from_slice(&alone(0, 0, [1_000_000_000_000, 0, 0], 8))?;
-    expected.extend_from_slice(&together(0, 0, [0, 0, 0]))?;
-    assert!(&rt; are_events(rt.alloc(), &[ONE_CHANNEL], expected.as_slice())?);
-    Ok(())
-}
+fn events_by_subsystems_and_groups(rt: HostRuntime) -> Result<(), Fail> {
+    let none = [0, 0, 0];
+    let mut one = Vec::new(rt.alloc());
+    one.extend_from_slice(&alone(0, 0, [1_000_000_000_000, 0, 0], 8))?;
+    one.extend_from_slice(&together(0, 0, none))?;
+    assert!(&rt; are_events(rt.alloc(), &[ONE_CHANNEL], one.as_slice())?);
 
-#[test]
-fn three_subsystems_of_one_group(rt: HostRuntime) -> Result<(), Fail> {
+    // three subsystems of one group
     let samples = [
         daily(2, 3, 500_000, 2_000_000),
         daily(1, 1, 100_000, 900_000),
@@ -141,28 +139,25 @@ fn three_subsystems_of_one_group(rt: HostRuntime) -> Result<(), Fail> {
         [100_000_000_000, 0, 900_000_000_000],
         [2_000_000_000_000, 0, 0],
     ];
-    let mut expected = Vec::new(rt.alloc());
+    let mut three = Vec::new(rt.alloc());
     for i in 0..3u8 {
-        expected.extend_from_slice(&alone(i, i, fails[usize::from(i)], 24))?;
-        expected.extend_from_slice(&together(i, i, [0, 0, 0]))?;
+        three.extend_from_slice(&alone(i, i, fails[usize::from(i)], 24))?;
+        three.extend_from_slice(&together(i, i, none))?;
     }
-    assert_eq!(&rt; expected.len(), 21);
-    assert!(&rt; are_events(rt.alloc(), &samples, expected.as_slice())?);
-    Ok(())
-}
+    assert_eq!(&rt; three.len(), 21);
+    assert!(&rt; are_events(rt.alloc(), &samples, three.as_slice())?);
 
-#[test]
-fn a_staggered_subsystem_after_one_with_every_feature(rt: HostRuntime) -> Result<(), Fail> {
+    // a staggered subsystem after one with every feature
     let sensors = [427_500_000_000, 47_500_000_000, 1_960_000_000_000];
     let common = [22_500_000_000, 2_500_000_000, 40_000_000_000];
-    let mut expected = Vec::new(rt.alloc());
-    expected.extend_from_slice(&alone(0, 0, sensors, 24))?;
-    expected.extend_from_slice(&together(0, 0, common))?;
+    let mut five = Vec::new(rt.alloc());
+    five.extend_from_slice(&alone(0, 0, sensors, 24))?;
+    five.extend_from_slice(&together(0, 0, common))?;
     // every failure of a valve is a common cause, and each valve is a group of its own
-    expected.extend_from_slice(&alone(1, 1, [0, 0, 0], 12))?;
-    expected.extend_from_slice(&alone(1, 2, [0, 0, 0], 12))?;
-    expected.extend_from_slice(&together(1, 1, [2_000_000_000_000, 0, 0]))?;
+    five.extend_from_slice(&alone(1, 1, none, 12))?;
+    five.extend_from_slice(&alone(1, 2, none, 12))?;
+    five.extend_from_slice(&together(1, 1, [2_000_000_000_000, 0, 0]))?;
     let samples = [sensors_with_every_feature(), staggered_valves()];
-    assert!(&rt; are_events(rt.alloc(), &samples, expected.as_slice())?);
+    assert!(&rt; are_events(rt.alloc(), &samples, five.as_slice())?);
     Ok(())
 }

@@ -2,7 +2,7 @@
 
 use lumping::Space;
 use sample_loops::{ONE_CHANNEL, Sample, sample_loop};
-use sil_model::{InRepair, Vote};
+use sil_model::{CHANNEL_STATES, InRepair, Vote};
 use std::alloc::Global;
 use std::process::Abort;
 use std::test::Fail;
@@ -31,7 +31,7 @@ fn count_up(
     };
     let mut counts = [0u8; 12];
     assert_eq!(rt; space.size(), 800);
-    assert_eq!(rt; 4 * l.groups(), counts.len());
+    assert_eq!(rt; CHANNEL_STATES * l.groups(), counts.len());
     let mut up = 0;
     for i in 0..space.size() {
         space.counts_at(i, &mut counts);

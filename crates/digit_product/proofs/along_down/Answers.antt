@@ -2,7 +2,7 @@ use Rattle.std.proofs.Common.{◌≡◌, ℕ, ◌*◌, ◌/◌, ◌%◌, ◌<◌
 use Rattle.std.proofs.Math.Nat.{mul-le-mul}
 use Rattle.std.proofs.lemmas.Bool.{cases_lt}
 use Rattle.std.proofs.lemmas.Nat.{mod_below}
-use Rattle.digit_laws.specs.Digits.{digit_of}
+use Rattle.separate_laws.specs.Digits.{digit_of}
 use Rattle.digit_product.proofs.Digits.{its-place, block-below}
 use Rattle.digit_product.proofs.Entries.{weighed-small}
 use Rattle.digit_product.proofs.Listed.{others-stay, digit-filled}

@@ -1,4 +1,4 @@
-use Rattle.lumping.proofs.Numbering.{number_of-small, counts_numbered-number_of, counts_numbered-valid, number_of-counts_numbered, start-valid, number_of-start}
+use Rattle.count_laws.proofs.Numbering.{number_of-small, counts_numbered-number_of, counts_numbered-valid, number_of-counts_numbered, start-valid, number_of-start}
 use Rattle.lumping.proofs.numbering_laws.Goals as goal
 
 pub returns : goal.returns

@@ -1,6 +1,6 @@
 //! Loops that are drawn from numbers.
 
-use super::figures::{between, holds};
+use super::figures::{between, is_line};
 use super::{ROOM, ran, ran_over};
 use sil_io::MemShelf;
 use sil_top::Status;
@@ -30,7 +30,13 @@ fn loop_that_is_drawn_from_seven(rt: HostRuntime) -> Result<(), Fail> {
     assert_eq!(rt; text.lines().count(), 7);
     let pfd = between(text, "pfd ", "\n")?;
     let pfh = between(text, "pfh ", "\n")?;
-    assert!(rt; holds(pfd, "17995757341979306", "SIL 1")?, "{text}");
-    assert!(rt; holds(pfh, "13442239249746", "no SIL")?, "{text}");
+    assert!(rt;
+        is_line(pfd, "17995757341979306", "SIL 1", "22061438899")?,
+        "{text}"
+    );
+    assert!(rt;
+        is_line(pfh, "13442239249746", "no SIL", "2682987")?,
+        "{text}"
+    );
     Ok(())
 }

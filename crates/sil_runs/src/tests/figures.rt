@@ -2,8 +2,8 @@
 
 use std::test::Fail;
 
-/// A figure with 18 decimals, in units of 10^-18.
-fn units(figure: &str) -> u128 {
+/// A whole number, or a figure with 18 decimals in units of 10^-18.
+pub(crate) fn units(figure: &str) -> u128 {
     let mut units = 0u128;
     for byte in figure.bytes() {
         if byte.is_ascii_digit() {
@@ -22,10 +22,20 @@ pub(crate) fn between<'a>(text: &'a str, start: &str, end: &str) -> Result<&'a s
     Ok(part)
 }
 
-/// Whether the interval of this line holds this figure, and nothing follows it but the band.
-pub(crate) fn holds(line: &str, figure: &str, band: &str) -> Result<bool, Fail> {
+/// Whether an interval holds a figure and is no wider than so much.
+pub(crate) fn holds(lo: u128, hi: u128, figure: u128, widest: u128) -> bool {
+    lo <= figure && figure <= hi && hi.saturating_sub(lo) <= widest
+}
+
+/// The two ends of an interval, and its band, behind which nothing stands.
+pub(crate) fn ends_and_band(line: &str) -> Result<(u128, u128, &str), Fail> {
     let (lo, rest) = line.split_once(" .. ").ok_or("no ends")?;
-    let (hi, told) = rest.split_once(' ').ok_or("no band")?;
-    let figure = units(figure);
-    Ok(units(lo) <= figure && figure <= units(hi) && told == band)
+    let (hi, band) = rest.split_once(' ').ok_or("no band")?;
+    Ok((units(lo), units(hi), band))
+}
+
+/// Whether the line of a figure has such an interval, and this band.
+pub(crate) fn is_line(line: &str, figure: &str, band: &str, widest: &str) -> Result<bool, Fail> {
+    let (lo, hi, told) = ends_and_band(line)?;
+    Ok(holds(lo, hi, units(figure), units(widest)) && told == band)
 }

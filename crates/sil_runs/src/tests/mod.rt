@@ -1,4 +1,4 @@
-//! The texts and the statuses of whole runs.
+//! The texts and the statuses of whole runs, and reports against figures from outside.
 
 mod drawn;
 mod faults;
@@ -7,8 +7,11 @@ mod files;
 mod lines;
 mod program;
 mod refusals;
+mod reports;
 mod series;
 mod sizes;
+mod whole_runs;
+mod years;
 
 use sil_io::{MemShelf, MemSink};
 use sil_top::{Status, run};
@@ -73,6 +76,17 @@ fn shelf_of(alloc: Global, file: &[u8]) -> Result<MemShelf, AllocError> {
 fn ran(alloc: Global, line: &str, file: &[u8]) -> Result<(Status, String), Fail> {
     let mut shelf = shelf_of(alloc, file)?;
     ran_over(alloc, line, &mut shelf, ROOM)
+}
+
+/// The text of a run over a loop file, which is given after its first line and with `;` in the place of line feeds.
+fn report_of(alloc: Global, line: &str, file: &str) -> Result<String, Fail> {
+    let mut whole = String::from_str(alloc, "version = 1\n")?;
+    whole.push_str(lines_of(alloc, file)?.as_str())?;
+    let (status, text) = ran(alloc, line, whole.as_bytes())?;
+    if status != Status::Done {
+        return Err("no report".into());
+    }
+    Ok(text)
 }
 
 /// Whether a run over this file ends with this status and this text.

@@ -24,7 +24,7 @@ fn line_of_one_phase(rt: HostRuntime) -> Result<(), Fail> {
     Ok(())
 }
 
-/// With memory at hand a name that is not there, and words with a wrong value, are not told as want of memory.
+/// With memory at hand a name that is not there, and words with a wrong value, are not told as out of memory.
 #[test]
 fn other_ends(rt: HostRuntime) -> Result<(), Fail> {
     for (line, expected) in [

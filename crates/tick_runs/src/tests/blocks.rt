@@ -3,6 +3,7 @@
 ghost use Rattle.std.specs.Prelude.{◌≡◌, ◌^◌, ◌<◌, ◌≤◌};
 ghost use Rattle.sil_fraction.specs.Fraction.{◌*ℚ◌, whole, inverse};
 
+use super::ONE;
 use beat_ladder::{BlockRoom, Ladder, Tick};
 use sil_model::Steps;
 use std::marker::Brand;
@@ -64,9 +65,6 @@ fn rungs_that_are_needed(rt: HostRuntime) -> Result<(), Fail> {
     }
     Ok(())
 }
-
-/// One, in units of 2^-48.
-const ONE: u64 = 1 << 48;
 
 /// A channel that works, until it fails for good. Its vector has the chance that it works alone.
 #[derive(Drop)]

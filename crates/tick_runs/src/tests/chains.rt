@@ -2,7 +2,8 @@
 
 ghost use Rattle.std.specs.Prelude.{◌≡◌, ◌<◌};
 
-use interval_fixed::{ONE, ratio_down, ratio_up};
+use super::ONE;
+use interval_fixed::{ratio_down, ratio_up};
 use lumping::Space;
 use product_chain::Chain;
 use sample_loops::{ONE_CHANNEL, Sample, YEARLY, sample_loop};
@@ -39,8 +40,8 @@ fn tick_once<L: Ledger>(
     alloc: Global,
     samples: &[Sample],
     time: (u64, u64),
-    from: &[(usize, u128)],
-    after: &[(usize, u128)],
+    from: &[(usize, u64)],
+    after: &[(usize, u64)],
     steps: &mut Steps<L>,
 ) -> Result<(), Fail> {
     let l = sample_loop(alloc, 350_400, samples)?.ok_or("out of range")?;
@@ -51,7 +52,7 @@ fn tick_once<L: Ledger>(
     assert!(rt; 1 <= hours && hours <= 350_400 && beats <= 1_000_000);
     assert!(rt; beats_of(&l, hours) <= beats);
     let chain = Chain::new(alloc, &l, &space, hours, beats)?;
-    let mut vector = vec![in alloc; 0u128; space.size()]?;
+    let mut vector = vec![in alloc; 0u64; space.size()]?;
     let mut left = ONE;
     for (i, mass) in from {
         assert!(rt; *i < vector.len());
@@ -59,7 +60,7 @@ fn tick_once<L: Ledger>(
         left -= *mass;
         vector[*i] += *mass;
     }
-    let mut next = vec![in alloc; 0u128; space.size()]?;
+    let mut next = vec![in alloc; 0u64; space.size()]?;
     chain.tick(vector.as_slice(), next.as_mut_slice(), steps);
     for (j, mass) in after {
         assert!(rt; *j < next.len());
@@ -84,8 +85,8 @@ fn one_channel_in_1096_beats<L: Ledger>(
     let start = [ONE, 0, 0, 0];
     let mut to = [0; 4];
     chain.tick(&start, &mut to, steps);
-    let down = ratio_down(8760, 1_096_000_000);
-    let up = ratio_up(8760, 1_096_000_000);
+    let down = ratio_down(8760, 1_096_000_000) as u64;
+    let up = ratio_up(8760, 1_096_000_000) as u64;
     assert_eq!(rt; to, [ONE - up, down, 0, 0]);
     chain.tick(&[0, 0, 0, ONE], &mut to, steps);
     assert_eq!(rt; to, [281_218_156_476_430, 0, 0, 256_820_234_225]);
@@ -171,7 +172,7 @@ fn chains_at_the_limits<L: Ledger>(
         },
         ..channels(8)
     };
-    let cases: [(Sample, (u64, u64), &[(usize, u128)]); 4] = [
+    let cases: [(Sample, (u64, u64), &[(usize, u64)]); 4] = [
         // nothing happens where all work and none fails
         (still, (350_400, 1_000_000), &[(0, ONE)]),
         // eight channels fail together, in the least number of beats

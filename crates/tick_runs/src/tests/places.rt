@@ -4,7 +4,7 @@ ghost use Rattle.std.specs.Prelude.{◌≡◌, ◌<◌, ◌≤◌, ◌^◌, leng
 ghost use Rattle.sil_model.specs.Sizes.{states_of};
 ghost use Rattle.place_chain.specs.PlaceChain.{IsWithin};
 
-use interval_fixed::ONE;
+use super::ONE;
 use lumping::Space;
 use place_chain::PlaceChain;
 use product_chain::Chain;
@@ -32,12 +32,12 @@ const fn channels(n: u8, du: u64, dd: u64) -> Sample {
 }
 
 /// All mass at one of 800 count vectors.
-fn all_at(alloc: Global, start: usize) -> Result<Vec<u128>, Fail>
+fn all_at(alloc: Global, start: usize) -> Result<Vec<u64>, Fail>
     requires { start < 800 }
     ensures size { IfOk result (λ v. vec_len v ≡ 800) }
     ensures mass { IfOk result (λ v. sum v.items ≤ 2 ^ 48) }
 {
-    let mut v = vec![in alloc; 0u128; 800]?;
+    let mut v = vec![in alloc; 0u64; 800]?;
     v[start] = ONE;
     Ok(v)
 }
@@ -48,7 +48,7 @@ fn tick_both<L: Ledger>(
     alloc: Global,
     chain: &Chain,
     reached: &PlaceChain,
-    v: &mut Vec<u128>,
+    v: &mut Vec<u64>,
     steps: &mut Steps<L>,
 ) -> Result<(), Fail>
     requires chain { reached.now.chain ≡ chain.now }
@@ -61,7 +61,7 @@ fn tick_both<L: Ledger>(
 {
     let mut from = vec![in alloc; 0u64; reached.size()]?;
     let mut to = vec![in alloc; 0u64; reached.size()]?;
-    let mut next = vec![in alloc; 0u128; v.len()]?;
+    let mut next = vec![in alloc; 0u64; v.len()]?;
     reached.gather(v, &mut from);
     reached.tick(&from, &mut to, steps);
     chain.tick(v, &mut next, steps);
@@ -70,16 +70,22 @@ fn tick_both<L: Ledger>(
     Ok(())
 }
 
-/// So many places come to hold more than `least` in 3,750 ticks, and a tick over these leaves nowhere more than one over all
+/// How many places come to hold more than `least` in 3,750 ticks.
+#[derive(Clone, Copy)]
+struct Choice {
+    least: u64,
+    places: usize,
+}
+
+/// So many places come to hold more than that in 3,750 ticks, and a tick over these leaves nowhere more than one over all
 /// count vectors.
 fn tick_over_chosen<L: Ledger>(
     rt: &impl Abort,
     alloc: Global,
     l: &Loop,
     chain: &Chain,
-    v: &[u128],
-    least: u64,
-    places: usize,
+    v: &[u64],
+    choice: Choice,
     steps: &mut Steps<L>,
 ) -> Result<(), Fail>
     requires chain { l.now ≡ chain.now.of }
@@ -87,12 +93,12 @@ fn tick_over_chosen<L: Ledger>(
     requires mass { sum v.now ≤ 2 ^ 48 }
 {
     let mut chosen = PlaceChain::new(alloc, l, chain)?;
-    chosen.choose(chain, v, 3750, least, steps);
-    assert_eq!(rt; chosen.size(), places);
+    chosen.choose(chain, v, 3750, choice.least, steps);
+    assert_eq!(rt; chosen.size(), choice.places);
     let mut from = vec![in alloc; 0u64; chosen.size()]?;
     let mut to = vec![in alloc; 0u64; chosen.size()]?;
-    let mut after = vec![in alloc; 0u128; v.len()]?;
-    let mut next = vec![in alloc; 0u128; v.len()]?;
+    let mut after = vec![in alloc; 0u64; v.len()]?;
+    let mut next = vec![in alloc; 0u64; v.len()]?;
     chosen.gather(v, &mut from);
     chosen.tick(&from, &mut to, steps);
     chosen.scatter(&to, &mut after);
@@ -103,14 +109,14 @@ fn tick_over_chosen<L: Ledger>(
     Ok(())
 }
 
-/// Three subsystems of 20, 4 and 10 count vectors, so 800 in all, and as many places from one of them; and how many of
-/// those come to hold more than nothing, than 6,000 units and than 10^9 units in 3,750 ticks.
+/// Three subsystems of 20, 4 and 10 count vectors, so 800 in all, and as many places from one of them; and choices among
+/// those.
 fn ticks<L: Ledger>(
     rt: &impl Abort,
     alloc: Global,
     start: usize,
     places: usize,
-    heavy: [usize; 3],
+    choices: [Choice; 3],
     steps: &mut Steps<L>,
 ) -> Result<(), Fail>
     requires { start < 800 }
@@ -131,14 +137,32 @@ fn ticks<L: Ledger>(
     let mut reached = PlaceChain::new(alloc, &l, &chain)?;
     reached.reach(&chain, &v);
     assert_eq!(rt; reached.size(), places);
-    let [more_than_nothing, heavier, heaviest] = heavy;
-    tick_over_chosen(rt, alloc, &l, &chain, &v, 0, more_than_nothing, steps)?;
-    tick_over_chosen(rt, alloc, &l, &chain, &v, 6000, heavier, steps)?;
-    tick_over_chosen(rt, alloc, &l, &chain, &v, 1_000_000_000, heaviest, steps)?;
+    for choice in choices {
+        tick_over_chosen(rt, alloc, &l, &chain, &v, choice, steps)?;
+    }
     for _ in 0..5 {
         tick_both(rt, alloc, &chain, &reached, &mut v, steps)?;
     }
     Ok(())
+}
+
+/// How many places come to hold more than nothing, than 6,000 units and than 10^9 units.
+fn choices(places: [usize; 3]) -> [Choice; 3] {
+    let [more_than_nothing, heavier, heaviest] = places;
+    [
+        Choice {
+            least: 0,
+            places: more_than_nothing,
+        },
+        Choice {
+            least: 6000,
+            places: heavier,
+        },
+        Choice {
+            least: 1_000_000_000,
+            places: heaviest,
+        },
+    ]
 }
 
 fn run_all<L: Ledger>(rt: &impl Abort, alloc: Global, blank: Blank) -> Result<(), Fail>
@@ -149,9 +173,16 @@ fn run_all<L: Ledger>(rt: &impl Abort, alloc: Global, blank: Blank) -> Result<()
     let mut steps = Steps::<L>::open(blank);
     // Ten count vectors of three channels have none in Deep, three of one channel, six of two. Where all valves work, none gets
     // into repair before a test: three of theirs are left.
-    ticks(rt, alloc, 0, 10 * 3 * 3, [85, 73, 27], &mut steps)?;
+    ticks(rt, alloc, 0, 10 * 3 * 3, choices([85, 73, 27]), &mut steps)?;
     // The last count vector of the valves has both in repair, as after a test.
-    ticks(rt, alloc, 720, 10 * 3 * 6, [112, 78, 31], &mut steps)
+    ticks(
+        rt,
+        alloc,
+        720,
+        10 * 3 * 6,
+        choices([112, 78, 31]),
+        &mut steps,
+    )
 }
 
 #[test]

@@ -1,7 +1,7 @@
 //! Powers worked out apart, and the greatest size.
 
 ghost use Rattle.std.specs.Prelude.{◌≡◌, ℕ, ◌<◌, ◌≤◌, ◌^◌, IsTrue, IfOk, All, vec_len, sum};
-ghost use Rattle.dense_power.specs.Rows.{row_of, EachRowAtMost};
+ghost use Rattle.vector_laws.specs.Rows.{row_of, EachRowAtMost};
 
 use super::entries::is_small;
 use dense_power::{Dense, power_pair};

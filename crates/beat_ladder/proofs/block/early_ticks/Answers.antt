@@ -2,7 +2,7 @@ use Rattle.std.proofs.Common.{ℕ, ◌*◌, length, sum, refl, ap, ◌∙◌, ar
 use Rattle.std.proofs.Math.Nat.{mul-le-mul_right}
 use Rattle.std.proofs.lemmas.List.{get_or-replicate}
 use Rattle.vector_laws.proofs.Masses.{sum-constant}
-use Rattle.block_laws.proofs.Ticks.{ticked_none, ticked_more, gathered_none, gathered_more}
+use Rattle.vector_laws.proofs.Ticks.{ticked_none, ticked_more, gathered_none, gathered_more}
 use Rattle.beat_ladder.specs.Losses.{IsStep}
 use Rattle.beat_ladder.proofs.block.early_ticks.Goals as goal
 

@@ -3,7 +3,7 @@ use Rattle.std.proofs.Math.Nat.{mul-le-mul_left, mul-le-mul_right}
 use Rattle.std.proofs.lemmas.List.{get_or-replicate}
 use Rattle.std.proofs.lemmas.Grind.{get_or_default_zero}
 use Rattle.vector_laws.proofs.Masses.{sum-none, sum-constant}
-use Rattle.block_laws.proofs.Ticks.{ticked_more}
+use Rattle.vector_laws.proofs.Ticks.{ticked_more}
 use Rattle.beat_ladder.specs.Powers.{power_of}
 use Rattle.beat_ladder.specs.Losses.{IsStep}
 use Rattle.beat_ladder.proofs.Rungs.{held_mass}

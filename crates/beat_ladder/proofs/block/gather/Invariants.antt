@@ -1,5 +1,5 @@
 use Rattle.std.proofs.Common.{◌≡◌, ◌+◌, ◌*◌, ◌≤◌, length}
-use Rattle.block_laws.specs.Block.{IsTicked, IsGathered}
+use Rattle.vector_laws.specs.Block.{IsTicked, IsGathered}
 use Rattle.beat_ladder.specs.Powers.{power_of}
 use Rattle.beat_ladder.specs.Losses.{IsStep}
 use Rattle.beat_ladder.proofs.Tails.{tail}

@@ -2,7 +2,7 @@ use Rattle.std.proofs.Common.{◌≡◌, ℕ, ◌+◌, ◌/◌, ◌^◌, ◌<◌
 use Rattle.std.proofs.lemmas.List.{length-take-le}
 use Rattle.sil_model.specs.Series.{Values}
 use Rattle.vector_laws.specs.Laws.{AreFloors}
-use Rattle.block_laws.specs.Block.{IsGathered}
+use Rattle.vector_laws.specs.Block.{IsGathered}
 use Rattle.beat_ladder.specs.Powers.{power_of}
 use Rattle.beat_ladder.specs.Losses.{IsStep}
 use Rattle.beat_ladder.specs.declared.rung.Rung.{Rung}

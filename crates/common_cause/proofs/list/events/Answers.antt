@@ -19,7 +19,7 @@ push_groups-requires-clause-few c =
     let all = groups-within c.args.l.now c.len-i-end.ensures.valid in
     let within = groups_within c.args.l.now.subsystems c.loop-i.i c.loop-i.first (c.loop-i.invariant.at.0) c.subsystem-u.result.now
     c.subsystem-u.result.now (omega arith) (c.subsystem-u.ensures c.subsystem-u.result.now) (c.loop-i.invariant.at.1) in
-    omega (arith, all.below, within, c.groups_in-groups.ensures c.loop-i.i)
+    omega (arith, all.below, within, c.groups-groups.ensures.groups c.loop-i.i)
 
 pub overflow_cast-first : goal.overflow_cast-first
 overflow_cast-first c =
@@ -37,7 +37,7 @@ overflow_add-first c =
     let all = groups-within c.args.l.now c.len-i-end.ensures.valid in
     let within = groups_within c.args.l.now.subsystems c.loop-i.i c.loop-i.first (c.loop-i.invariant.at.0) c.subsystem-u.result.now
     c.subsystem-u.result.now (omega arith) (c.subsystem-u.ensures c.subsystem-u.result.now) (c.loop-i.invariant.at.1) in
-    omega (arith, all.below, within, c.groups_in-groups.ensures c.loop-i.i)
+    omega (arith, all.below, within, c.groups-groups.ensures.groups c.loop-i.i)
 
 pub loop-i-preserved : goal.loop-i-preserved
 loop-i-preserved c =
@@ -46,12 +46,12 @@ loop-i-preserved c =
     let inside : c.loop-i.i < length us = omega arith in
     record {
       left =
-          subsystems-next us c.loop-i.i c.loop-i.first c.groups_in-groups.result u u c.loop-i.events.items c.push_groups.new.events.items
+          subsystems-next us c.loop-i.i c.loop-i.first c.groups-groups.result u u c.loop-i.events.items c.push_groups.new.events.items
           c.push_common.new.events.items inside (c.subsystem-u.ensures u) c.loop-i.invariant.left
-          (c.groups_in-groups.ensures c.loop-i.i) c.in_ok-push_groups.ensures c.in_ok-push_common.ensures;
+          (c.groups-groups.ensures.groups c.loop-i.i) c.in_ok-push_groups.ensures c.in_ok-push_common.ensures;
       at = (
         c.loop-i.invariant.at.0 + u.vote.n,
-        rw (← c.groups_in-groups.ensures c.loop-i.i) at (at_next us c.loop-i.i c.loop-i.first
+        rw (← c.groups-groups.ensures.groups c.loop-i.i) at (at_next us c.loop-i.i c.loop-i.first
             (c.loop-i.invariant.at.0) u u inside (c.subsystem-u.ensures u) (c.loop-i.invariant.at.1)),
       );
     }

@@ -17,7 +17,7 @@ overflow_add-first c =
     let all = groups-within c.args.l.now c.mission.ensures.valid in
     let within = groups_within c.args.l.now.subsystems c.loop-i.i c.loop-i.first (c.loop-i.invariant.at.0) c.subsystem.result.now
     c.subsystem.result.now (omega arith) (c.subsystem.ensures c.subsystem.result.now) (c.loop-i.invariant.at.1) in
-    omega (arith, all.below, within, c.groups_in-first.ensures c.loop-i.i)
+    omega (arith, all.below, within, c.groups-first.ensures.groups c.loop-i.i)
 
 pub loop-i-preserved : goal.loop-i-preserved
 loop-i-preserved c =
@@ -26,11 +26,11 @@ loop-i-preserved c =
     let inside : c.loop-i.i < length us = omega arith in
     record {
       left =
-          shares-next us c.args.counts.now c.args.subsystem c.loop-i.i c.loop-i.first c.groups_in-first.result u u inside (c.subsystem.ensures u)
-          (c.groups_in-first.ensures 0) c.loop-i.invariant.left;
+          shares-next us c.args.counts.now c.args.subsystem c.loop-i.i c.loop-i.first c.groups-first.result u u inside (c.subsystem.ensures u)
+          (c.groups-first.ensures.groups 0) c.loop-i.invariant.left;
       at = (
         c.loop-i.invariant.at.0 + u.vote.n,
-        rw (← c.groups_in-first.ensures c.loop-i.i) at (at_next us c.loop-i.i c.loop-i.first
+        rw (← c.groups-first.ensures.groups c.loop-i.i) at (at_next us c.loop-i.i c.loop-i.first
             (c.loop-i.invariant.at.0) u u inside (c.subsystem.ensures u) (c.loop-i.invariant.at.1)),
       );
     }
@@ -41,7 +41,7 @@ sum_in-requires-clause-few c =
     let r : IsSubsystemInRange u = in_range c.args.l.now.subsystems c.mission.ensures.valid.subsystems c.args.subsystem u c.requires.inside
     (c.subsystem-u.ensures u) in
     let some : 1 ≤ u.vote.n = omega (arith, r.vote.some, r.vote.suffice) in
-    omega (arith, c.groups_in.ensures 0, by_test-few 0 u.vote.n u.test some, r.vote.few)
+    omega (arith, c.groups.ensures.groups 0, by_test-few 0 u.vote.n u.test some, r.vote.few)
 
 pub sum_in-requires-clause-inside : goal.sum_in-requires-clause-inside
 sum_in-requires-clause-inside c =
@@ -49,11 +49,11 @@ sum_in-requires-clause-inside c =
     let all : c.loop-i.i ≡ c.args.subsystem = omega arith in
     let within = groups_within c.args.l.now.subsystems c.args.subsystem c.loop-i.first (c.loop-i.invariant.at.0) u u c.requires.inside
     (c.subsystem-u.ensures u) (rw all at (c.loop-i.invariant.at.1)) in
-    omega (arith, within, c.groups_in.ensures c.args.subsystem, c.requires.counts)
+    omega (arith, within, c.groups.ensures.groups c.args.subsystem, c.requires.counts)
 
 pub returns : goal.returns
 returns c =
     let u : Subsystem = c.subsystem-u.result.now in
     let all : c.loop-i.i ≡ c.args.subsystem = omega arith in
-    shares-end c.args.l.now.subsystems c.args.counts.now c.args.subsystem c.loop-i.first c.groups_in.result u u c.share_in.result c.requires.inside
-    (c.subsystem-u.ensures u) (c.groups_in.ensures 0) (rw c.sum_in.ensures.sum at c.share_in.ensures.parts) (rw all at c.loop-i.invariant.left)
+    shares-end c.args.l.now.subsystems c.args.counts.now c.args.subsystem c.loop-i.first c.groups.result u u c.share_in.result c.requires.inside
+    (c.subsystem-u.ensures u) (c.groups.ensures.groups 0) (rw c.sum_in.ensures.sum at c.share_in.ensures.parts) (rw all at c.loop-i.invariant.left)

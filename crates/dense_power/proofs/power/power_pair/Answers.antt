@@ -1,5 +1,5 @@
 use Rattle.std.proofs.Common.{◌≡◌, ℕ, ◌+◌, ◌-◌, ◌*◌, ◌/◌, ◌%◌, ◌^◌, ◌∙◌, arith, All}
-use Rattle.dense_power.specs.Matrix.{Matrix}
+use Rattle.vector_laws.specs.Matrix.{Matrix}
 use Rattle.dense_power.specs.Powers.{IsJoined}
 use Rattle.dense_power.proofs.Pairs.{IsPair, one_beat, twice, one_more, entries_of_rows, dwell_entries}
 use Rattle.dense_power.proofs.Digits.{first_digit, next_digit, all_digits, digits_le, place_below, counted, place_made}

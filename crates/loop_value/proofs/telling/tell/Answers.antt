@@ -1,5 +1,5 @@
 use Rattle.std.proofs.Common.{sym, arith}
-use Rattle.test_calendar.proofs.PhasesOfLoop.{phases_of_few}
+use Rattle.schedule_laws.proofs.PhasesOfLoop.{phases_of_few}
 use Rattle.sil_watch.proofs.Lists.{on_error}
 use Rattle.loop_value.proofs.Told.{some_record, some_record_is}
 use Rattle.loop_value.proofs.telling.tell.Goals as goal
@@ -26,9 +26,9 @@ returns-in_err-feed-clause-refused g c =
 
 pub returns-else-any_asked-clause-told : goal.returns-else-any_asked-clause-told
 returns-else-any_asked-clause-told g c order least passed = record {
-  rec = some_record c.args.l.now c.requires.plan.valid c.args.p c.requires.within c.args.up.now c.requires.up c.args.mean.now c.args.end.now
-      c.requires.mean_length c.requires.end_length c.requires.mean_mass c.requires.end_mass;
-  is = some_record_is c.args.l.now c.requires.plan.valid c.args.p c.requires.within c.args.up.now c.requires.up c.args.mean.now c.args.end.now
-      c.requires.mean_length c.requires.end_length c.requires.mean_mass c.requires.end_mass order least passed;
+  rec = some_record c.args.l.now c.requires.plan.valid c.args.p c.requires.within c.args.m.now.up.items c.requires.ready.up c.args.m.now.mean.items c.args.m.now.v.items
+      c.requires.ready.mean c.requires.ready.v c.requires.mean_mass c.requires.end_mass;
+  is = some_record_is c.args.l.now c.requires.plan.valid c.args.p c.requires.within c.args.m.now.up.items c.requires.ready.up c.args.m.now.mean.items c.args.m.now.v.items
+      c.requires.ready.mean c.requires.ready.v c.requires.mean_mass c.requires.end_mass order least passed;
   fed = sym (c.any_asked.ensures.none c.if-any_asked.false _);
 }

@@ -1,7 +1,7 @@
 use Rattle.std.proofs.Common.{◌≡◌, arith, ◌<◌, ◌^◌, ◌≤◌, length, lit<}
 use Rattle.std.proofs.Math.ListN.{drop_of_length-le}
 use Rattle.sil_model.specs.LoopValue.{groups_of}
-use Rattle.sil_model.specs.Sizes.{states_of, states_over}
+use Rattle.sil_model.specs.Sizes.{channel_states, states_of, states_over}
 use Rattle.lumping.proofs.Few.{groups-few, states-few}
 use Rattle.lumping.proofs.Turns.{count-turn, count-fits}
 use Rattle.lumping.proofs.space.state_count.Goals as goal
@@ -12,7 +12,7 @@ shares-requires c =
 
 pub overflow_mul-count : goal.overflow_mul-count
 overflow_mul-count c =
-    let small : 4 ^ 48 < 2 ^ 128 = lit< tt in
+    let small : channel_states ^ 48 < 2 ^ 128 = lit< tt in
     let inside : c.loop-g.g < length (groups_of c.args.l.now.subsystems) = omega arith in
     omega (
       arith,

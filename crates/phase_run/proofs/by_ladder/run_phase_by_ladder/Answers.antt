@@ -1,92 +1,37 @@
 use Rattle.std.proofs.Common.{◌≡◌, ℕ, ◌<◌, length, slice_index, arith}
-use Rattle.std.proofs.lemmas.List.{get_or-replicate}
 use Rattle.sil_model.specs.Budget.{beat_loss_of}
-use Rattle.sil_model.specs.Sizes.{states_of}
 use Rattle.model_laws.proofs.Rates.{some_beats}
 use Rattle.phase_run.specs.Passes.{Passes}
-use Rattle.phase_run.proofs.Ends as phase
+use Rattle.phase_run.proofs.Ends.{runs_phase}
+use Rattle.phase_run.proofs.OverPlaces.{blank}
 use Rattle.phase_run.proofs.Passes.{passes_joined, products_joined}
-use Rattle.phase_run.proofs.by_ladder.run_phase_by_ladder.Given.{Over}
 use Rattle.phase_run.proofs.by_ladder.run_phase_by_ladder.Goals as goal
 
 pub settle-requires-clause-some : goal.settle-requires-clause-some
 settle-requires-clause-some g c = omega (
   arith,
-  some_beats c.args.chain.now.of.subsystems c.args.chain.now.hours,
+  some_beats c.args.phase.now.chain.now.of.subsystems c.args.phase.now.chain.now.hours,
   c.beats.ensures.timed.enough,
   c.requires.beats,
 )
 
-module _ (g : Over) (c : goal.After-slice_known-10-1 g) where
-  abbrev order : ℕ
-  order = c.args.weights.now
-
-  some : 0 < c.args.beats
-  some = omega (arith, some_beats c.args.chain.now.of.subsystems c.args.chain.now.hours, c.beats.ensures.timed.enough, c.requires.beats)
-
-  none : (k : ℕ) → k < length c.fill.new.self → slice_index c.fill.new.self k ≡ 0
-  none k h = rw (c.fill.ensures.after (λ y e. e)) (get_or-replicate (length c.args.mean.now) k 0 0 (omega (arith, c.fill.ensures.len)))
-
-  passes : Passes c.args.chain.now c.args.weights.now (beat_loss_of c.args.chain.now.of.subsystems c.args.weights.now) c.args.beats c.args.v.now
-      c.pass_beats.new.v c.fill.new.self c.pass_beats.new.dwell
-  passes =
-      passes_joined c.args.chain.now c.args.weights.now c.args.beats c.pass_blocks-left.result (omega (arith, c.order.ensures.order, c.order.ensures.least))
-      c.pass_blocks-left.ensures.left c.args.v.now c.pass_blocks-left.new.v c.pass_beats.new.v c.fill.new.self c.pass_blocks-left.new.dwell
-      c.pass_beats.new.dwell c.pass_blocks-left.ensures.passes c.pass_beats.ensures.passes
-
-  long : length c.args.dwell_hours.now ≡ length c.pass_beats.new.dwell
-  long = omega (arith, passes.size)
-
-  same : length c.settle.new.dwell_hours ≡ length c.pass_beats.new.dwell
-  same = omega (arith, passes.size)
-
-pub returns-clause-ends : goal.returns-clause-ends
-returns-clause-ends g c = phase.ends c.args.chain.now c.args.weights.now c.args.beats c.args.hours (some g c) c.requires.beats c.requires.hours c.args.v.now c.pass_beats.new.v
-    c.fill.new.self c.pass_beats.new.dwell (none g c) (passes g c)
-
-pub returns-clause-lack : goal.returns-clause-lack
-returns-clause-lack g c = phase.lack c.args.chain.now c.args.weights.now c.args.beats c.args.hours (some g c) c.requires.beats c.requires.hours c.args.v.now c.pass_beats.new.v
-    c.fill.new.self c.pass_beats.new.dwell (none g c) (passes g c)
-
-pub returns-clause-means : goal.returns-clause-means
-returns-clause-means g c = phase.mean_encloses c.args.chain.now c.args.weights.now c.args.beats c.args.hours (some g c) c.requires.beats c.requires.hours c.args.v.now c.pass_beats.new.v
-    c.fill.new.self c.pass_beats.new.dwell (none g c) (passes g c) c.settle.new.dwell c.settle.ensures.mean
-
-pub returns-clause-mean_kept : goal.returns-clause-mean_kept
-returns-clause-mean_kept g c = phase.mean_kept c.args.chain.now c.args.weights.now c.args.beats c.args.hours (some g c) c.requires.beats c.requires.hours c.args.v.now c.pass_beats.new.v
-    c.fill.new.self c.pass_beats.new.dwell (none g c) (passes g c) c.settle.new.dwell c.settle.ensures.mean
-
-pub returns-clause-mean_lack : goal.returns-clause-mean_lack
-returns-clause-mean_lack g c =
-    let size : length c.settle.new.dwell ≡ states_of c.args.chain.now.of.subsystems = omega (arith, c.settle.ensures.mean.same_length, passes g c) in
-    rw size at
-    (phase.mean_lack c.args.chain.now c.args.weights.now c.args.beats c.args.hours (some g c) c.requires.beats c.requires.hours c.args.v.now c.pass_beats.new.v
-    c.fill.new.self c.pass_beats.new.dwell (none g c) (passes g c) c.settle.new.dwell c.settle.ensures.mean)
-
-pub returns-clause-dwells : goal.returns-clause-dwells
-returns-clause-dwells g c = phase.hours_enclose c.args.chain.now c.args.weights.now c.args.beats c.args.hours (some g c) c.requires.beats c.requires.hours c.args.v.now c.pass_beats.new.v
-    c.fill.new.self c.pass_beats.new.dwell (none g c) (passes g c)
-    c.args.dwell_hours.now c.settle.new.dwell_hours (long g c) (same g c) c.settle.ensures.hours
-
-pub returns-clause-dwell_kept : goal.returns-clause-dwell_kept
-returns-clause-dwell_kept g c = phase.hours_kept c.args.chain.now c.args.weights.now c.args.beats c.args.hours (some g c) c.requires.beats c.requires.hours c.args.v.now c.pass_beats.new.v
-    c.fill.new.self c.pass_beats.new.dwell (none g c) (passes g c)
-    c.args.dwell_hours.now c.settle.new.dwell_hours (long g c) (same g c) c.settle.ensures.hours
-
-pub returns-clause-dwell_lack : goal.returns-clause-dwell_lack
-returns-clause-dwell_lack g c =
-    rw c.requires.dwell at
-    (phase.hours_lack c.args.chain.now c.args.weights.now c.args.beats c.args.hours (some g c) c.requires.beats c.requires.hours c.args.v.now c.pass_beats.new.v
-    c.fill.new.self c.pass_beats.new.dwell (none g c) (passes g c)
-    c.args.dwell_hours.now c.settle.new.dwell_hours (long g c) (same g c) c.settle.ensures.hours)
-
-pub returns-clause-grows : goal.returns-clause-grows
-returns-clause-grows g c = phase.grow c.args.chain.now c.args.weights.now c.args.beats c.args.hours (some g c) c.requires.beats c.requires.hours c.args.v.now c.pass_beats.new.v
-    c.fill.new.self c.pass_beats.new.dwell (none g c) (passes g c)
-    c.args.dwell_hours.now c.settle.new.dwell_hours (long g c) (same g c) c.settle.ensures.hours
+pub returns-clause-runs : goal.returns-clause-runs
+returns-clause-runs g c =
+    let chain = c.args.phase.now.chain.now in
+    let order : ℕ = c.args.phase.now.weights.now in
+    let beats : ℕ = c.args.phase.now.beats in
+    let some : 0 < beats = omega (arith, some_beats chain.of.subsystems chain.hours, c.beats.ensures.timed.enough, c.requires.beats) in
+    let none : (k : ℕ) → k < length c.fill.new.self → slice_index c.fill.new.self k ≡ 0 = blank _ c.fill.new.self (c.fill.ensures.after (λ y e. e)) in
+    let passes : Passes chain order (beat_loss_of chain.of.subsystems order) beats c.args.v.now c.pass_beats.new.v c.fill.new.self c.pass_beats.new.dwell =
+    passes_joined chain order beats c.pass_blocks-left.result (omega (arith, c.order.ensures.order, c.order.ensures.least))
+    c.pass_blocks-left.ensures.left c.args.v.now c.pass_blocks-left.new.v c.pass_beats.new.v c.fill.new.self c.pass_blocks-left.new.dwell
+    c.pass_beats.new.dwell c.pass_blocks-left.ensures.passes c.pass_beats.ensures.passes in
+    runs_phase chain order beats c.args.phase.now.hours some c.requires.beats c.requires.hours c.args.v.now c.pass_beats.new.v c.fill.new.self
+    c.pass_beats.new.dwell none passes c.settle.new.dwell c.settle.ensures.mean c.args.dwell_hours.now c.settle.new.dwell_hours c.settle.ensures.hours
+    (omega (arith, c.fill.ensures.len, c.requires.mean)) c.requires.dwell (omega arith)
 
 pub returns-clause-steps : goal.returns-clause-steps
 returns-clause-steps g c =
-    products_joined c.args.chain.now c.args.weights.now c.args.beats c.pass_blocks-left.result
+    products_joined c.args.phase.now.chain.now c.args.phase.now.weights.now c.args.phase.now.beats c.pass_blocks-left.result
     (omega (arith, c.order.ensures.order, c.order.ensures.least)) c.pass_blocks-left.ensures.left c.args.steps.now c.pass_blocks-left.new.steps
     c.pass_beats.new.steps c.pass_blocks-left.ensures.steps c.pass_beats.ensures.steps

@@ -7,7 +7,7 @@ use Rattle.phase_run.proofs.over.pass_over.Goals as goal
 
 pub returns-clause-passes : goal.returns-clause-passes
 returns-clause-passes g c =
-    let r : PlaceChainValue = c.args.reached.now in
+    let r : PlaceChainValue = c.args.stretch.now.places.now in
     let placed = c.size-size.ensures.placed in
     let short : c.size-size.result ≤ length c.args.small_dwell.now = omega (arith, c.size-size.ensures.size, placed.few, c.requires.small_dwell) in
     let zeros : length c.fill.new.self ≡ length r.places =
@@ -23,7 +23,7 @@ returns-clause-passes g c =
       };
       within = λ i h o. c.requires.none i h;
     } in
-    passes_scattered r placed c.requires.closed (c.args.beats - c.pass_blocks-left.result) c.args.v.now c.gather.new.small c.scatter.new.v c.pass_blocks-left.new.v
+    passes_scattered r placed c.requires.closed (c.args.stretch.now.beats - c.pass_blocks-left.result) c.args.v.now c.gather.new.small c.scatter.new.v c.pass_blocks-left.new.v
     c.args.dwell.now c.fill.new.self c.scatter_dwell.new.dwell c.pass_blocks-left.new.dwell
     (record { taken = record { size = c.requires.v; gathered = c.gather.ensures.gathered }; within = c.requires.within })
     (record { taken = record { size = c.scatter.auto.v ∙ c.requires.v; gathered = c.scatter.ensures.gathered }; within = c.scatter.ensures.within })

@@ -4,7 +4,7 @@ use Rattle.std.proofs.Math.Nat.{mul-pos}
 use Rattle.sil_model.specs.Sizes.{states_of}
 use Rattle.sil_model.specs.declared.parts.Subsystem.{Subsystem}
 use Rattle.product_chain.specs.Kept.{ChainValue}
-use Rattle.independence_laws.specs.Subsystems.{states_in}
+use Rattle.separate_laws.specs.Subsystems.{states_in}
 use Rattle.subsystem_power.specs.Powers.{PowerValue, IsPowerOf}
 use Rattle.phase_separate.specs.Subsystems.{beats_over}
 use Rattle.phase_separate.proofs.Passing.{IsNext, next_of, lengths, entries_small, none_passed, all_passed}

@@ -1,6 +1,6 @@
 use Rattle.std.proofs.Common.{◌≡◌, ◌+◌, ◌*◌, ◌≤◌, vec_len, drop, sum_by}
 use Rattle.sil_model.specs.Sizes.{states_of}
-use Rattle.independence_laws.specs.Subsystems.{states_in}
+use Rattle.separate_laws.specs.Subsystems.{states_in}
 use Rattle.phase_separate.specs.Products.{along_products}
 use Rattle.phase_separate.specs.Subsystems.{beats_over}
 use Rattle.phase_separate.proofs.Passing.{IsPassing}

@@ -1,4 +1,4 @@
-use Rattle.std.proofs.Common.{◌≡◌, ℕ, ◌+◌, ◌-◌, ◌*◌, ◌/◌, ◌^◌, ◌<◌, ◌∙◌, arith}
+use Rattle.std.proofs.Common.{◌≡◌, ℕ, ◌+◌, ◌-◌, ◌*◌, ◌/◌, ◌^◌, ◌<◌, arith}
 use Rattle.phase_separate.specs.Products.{along_products, power_products}
 use Rattle.phase_separate.proofs.Digits.{one_digit_more, first_digit, all_digits, some_digits, taken_by_digits, one_place_less}
 use Rattle.phase_separate.proofs.Separate.{separate}
@@ -14,8 +14,7 @@ loop-place-init g c =
       subsystems = rw one c.requires.subsystems;
       visited = rw (one, c.copy_from_slice.ensures.after)
           (first_visited c.args.chain.now (separate c.args.chain.now c.requires.valid c.requires.timed) c.args.start.now);
-      now = c.requires.now;
-      next = c.requires.next;
+      buffers = c.requires.buffers;
       steps = omega arith;
     }
 
@@ -39,8 +38,7 @@ loop-place-preserved-then-beats-place-eq1 g c =
       places = omega (arith, c.loop-place.invariant.places);
       subsystems = rw more c.add_beat.ensures.subsystems;
       visited = rw more c.add_beat.ensures.visited;
-      now = c.add_beat.ensures.now ∙ c.double.ensures.now ∙ c.loop-place.invariant.now;
-      next = c.add_beat.ensures.next ∙ c.double.ensures.next ∙ c.loop-place.invariant.next;
+      buffers = c.add_beat.ensures.buffers;
       steps = omega (arith, one_place_less place A c.loop-place-test.true, c.add_beat.ensures.steps, c.double.ensures.steps, c.loop-place.invariant.steps);
     }
 
@@ -54,8 +52,7 @@ loop-place-preserved g c =
       places = omega (arith, c.loop-place.invariant.places);
       subsystems = rw more c.double.ensures.subsystems;
       visited = rw more c.double.ensures.visited;
-      now = c.double.ensures.now ∙ c.loop-place.invariant.now;
-      next = c.double.ensures.next ∙ c.loop-place.invariant.next;
+      buffers = c.double.ensures.buffers;
       steps = omega (arith, one_place_less place A c.loop-place-test.true, c.double.ensures.steps, c.loop-place.invariant.steps);
     }
 

@@ -1,7 +1,8 @@
-use Rattle.std.proofs.Common.{◌≡◌, ◌+◌, ◌*◌, ◌/◌, ◌^◌, ◌≤◌, vec_len}
+use Rattle.std.proofs.Common.{◌≡◌, ◌+◌, ◌*◌, ◌/◌, ◌^◌, ◌≤◌}
 use Rattle.sil_model.specs.Sizes.{states_of}
 use Rattle.phase_separate.specs.Passes.{IsVisited}
 use Rattle.phase_separate.specs.Products.{along_products, power_products}
+use Rattle.phase_separate.specs.Rooms.{HaveSize}
 use Rattle.phase_separate.specs.Subsystems.{powers_at}
 use Rattle.phase_separate.proofs.phase.visit_all.Given as goal
 
@@ -12,7 +13,6 @@ invariant-loop-place g l =
       places : l.place ≤ l.initial.place;
       subsystems : l.subsystems ≡ powers_at l.chain (l.beats / 2 ^ l.place);
       visited : IsVisited l.chain (l.beats / 2 ^ l.place) l.start l.visited;
-      now : vec_len l.now ≡ states_of us;
-      next : vec_len l.next ≡ states_of us;
+      buffers : HaveSize (states_of us) l.buffers;
       steps : l.steps + 2 * l.place * (along_products us + power_products us) ≤ l.fn.steps + 2 * l.initial.place * (along_products us + power_products us);
     }

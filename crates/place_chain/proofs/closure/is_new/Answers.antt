@@ -2,14 +2,14 @@ use Rattle.std.proofs.Common.{◌+◌, length, arith}
 use Rattle.product_chain.proofs.Parts.{parts-within}
 use Rattle.place_chain.proofs.closure.is_new.Goals as goal
 
-pub offset_bounds-entries-starts : goal.offset_bounds-entries-starts
-offset_bounds-entries-starts c =
-    let here = parts-within (length c.args.marks.now) c.args.starts.now c.args.entries.now c.requires.columns.parts c.args.target (omega arith) in
+pub offset_bounds-columns-columns : goal.offset_bounds-columns-columns
+offset_bounds-columns-columns c =
+    let here = parts-within (length c.args.marks.now) c.args.columns.starts.now c.args.columns.entries.now c.requires.columns.parts c.args.target (omega arith) in
     omega (arith, here)
 
 pub slice_bounds-is_led_to-end : goal.slice_bounds-is_led_to-end
 slice_bounds-is_led_to-end c =
-    let next = parts-within (length c.args.marks.now) c.args.starts.now c.args.entries.now c.requires.columns.parts (c.args.target + 1) (omega arith) in
+    let next = parts-within (length c.args.marks.now) c.args.columns.starts.now c.args.columns.entries.now c.requires.columns.parts (c.args.target + 1) (omega arith) in
     omega (arith, next)
 
 pub returns-clause-led : goal.returns-clause-led

@@ -8,7 +8,7 @@ use Rattle.place_chain.proofs.estimate.mark_heavy.Given as goal
 abbrev pub invariant-loop-j : goal.invariant-loop-j
 invariant-loop-j g l = record {
   long : length l.marks ≡ length l.fn.marks;
-  columns : AreWeighted (length l.marks) (length l.marks) l.starts l.entries;
+  columns : AreWeighted (length l.marks) (length l.marks) l.columns.starts.now l.columns.entries.now;
   held : (i : ℕ) → i < l.j → l.fn.least < slice_index l.v i → is_marked l.marks i ≡ true;
-  counted : l.steps ≤ l.initial.steps + swept_to l.starts l.j;
+  counted : l.steps ≤ l.initial.steps + swept_to l.columns.starts.now l.j;
 }

@@ -6,6 +6,6 @@ use Rattle.place_chain.proofs.estimate.sweep_down.Given as goal
 abbrev pub invariant-loop-j : goal.invariant-loop-j
 invariant-loop-j g l = record {
   long : length l.masses ≡ length l.fn.masses;
-  columns : AreWeighted (length l.masses) (length l.masses) l.starts l.entries;
-  counted : l.steps + swept_to l.starts l.j ≤ l.fn.steps + length l.entries + length l.v;
+  columns : AreWeighted (length l.masses) (length l.masses) l.columns.starts.now l.columns.entries.now;
+  counted : l.steps + swept_to l.columns.starts.now l.j ≤ l.fn.steps + length l.columns.entries.now + length l.v;
 }

@@ -1,7 +1,7 @@
 use Rattle.std.proofs.Common.{◌≡◌, ◌≤◌, length, arith, ap, refl}
 use Rattle.std.specs.Prelude.{map}
 use Rattle.std.proofs.Math.Nat.{mul-le-mul}
-use Rattle.sil_model.specs.Sizes.{states_of}
+use Rattle.sil_model.specs.Sizes.{states_of, most_states}
 use Rattle.product_chain.specs.Columns.{step_of_move}
 use Rattle.product_chain.proofs.Over.{below-none, below-next}
 use Rattle.product_chain.proofs.Chains.{written, few-states}
@@ -12,7 +12,7 @@ use Rattle.product_chain.proofs.moves.moves_by_source.Goals as goal
 pub overflow_mul-len : goal.overflow_mul-len
 overflow_mul-len c =
     let few : c.len.result ≤ 210 = omega (arith, events-few c.args.l.now c.mission.ensures.valid, ap length c.in_ok-events.ensures.listed) in
-    let most : c.size.result ≤ 4096 = omega arith in
+    let most : c.size.result ≤ most_states = omega arith in
     omega (arith, mul-le-mul few most)
 
 pub loop-i-init : goal.loop-i-init

@@ -1,6 +1,6 @@
 use Rattle.std.proofs.Common.{◌≡◌, ◌≢◌, ◌∙◌, arith, inl, inr}
 use Rattle.std.proofs.lemmas.Bool.{cases_lt}
-use Rattle.dense_power.specs.Rows.{row_of}
+use Rattle.vector_laws.specs.Rows.{row_of}
 use Rattle.subsystem_power.proofs.Powers.{power_of_rows}
 use Rattle.subsystem_power.proofs.matrices.make_beat.Goals as goal
 

@@ -1,7 +1,7 @@
 use Rattle.std.proofs.Common.{◌≡◌, ℕ, ◌+◌, ◌*◌, ◌<◌, ◌≤◌}
 use Rattle.sil_model.specs.Sizes.{states_of}
 use Rattle.uniformise.specs.Beat.{beat_products}
-use Rattle.dense_power.specs.Rows.{row_of}
+use Rattle.vector_laws.specs.Rows.{row_of}
 use Rattle.subsystem_power.specs.Rooms.{IsRow}
 use Rattle.subsystem_power.proofs.matrices.make_beat.Given as goal
 

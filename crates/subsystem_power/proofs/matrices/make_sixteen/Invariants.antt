@@ -1,6 +1,6 @@
 use Rattle.std.proofs.Common.{◌≡◌, ◌+◌, ◌*◌, ◌^◌}
 use Rattle.product_chain.specs.Kept.{ChainValue}
-use Rattle.dense_power.specs.Rows.{EachRowAtMost}
+use Rattle.vector_laws.specs.Rows.{EachRowAtMost}
 use Rattle.subsystem_power.specs.Rooms.{IsSparePower}
 use Rattle.subsystem_power.proofs.matrices.make_sixteen.Given as goal
 

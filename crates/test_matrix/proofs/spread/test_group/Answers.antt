@@ -1,8 +1,12 @@
 use Rattle.std.proofs.Common.{◌≡◌, length, arith}
 use Rattle.std.proofs.lemmas.List.{length-map}
 use Rattle.test_matrix.specs.Spread.{sums_of}
-use Rattle.test_matrix.proofs.Apply.{encloses, loses, makes_nothing}
+use Rattle.test_matrix.proofs.Apply.{mass_within, encloses, loses, makes_nothing}
 use Rattle.test_matrix.proofs.spread.test_group.Goals as goal
+
+pub round_down-requires-clause-small : goal.round_down-requires-clause-small
+round_down-requires-clause-small g c =
+    omega (arith, c.spread_all.ensures.mass, mass_within c.args.rows.now c.args.works.now c.args.v.now c.requires.tables.few c.requires.rows, c.requires.mass)
 
 pub returns-clause-encloses : goal.returns-clause-encloses
 returns-clause-encloses g c = λ r small f.

@@ -6,7 +6,7 @@ use Rattle.sil_model.specs.Budget.{lumped_events_of}
 use Rattle.sil_model.specs.WeightTable.{weight_of, mean_weight_of}
 use Rattle.series_weights.proofs.Sums.{sum_weights_le, means_within}
 use Rattle.vector_laws.specs.Laws.{IsSumWith}
-use Rattle.block_laws.proofs.Ticks.{ticked_none, ticked_more, gathered_none, gathered_more, gathered_further}
+use Rattle.vector_laws.proofs.Ticks.{ticked_none, ticked_more, gathered_none, gathered_more, gathered_further}
 use Rattle.uniformise.specs.Beat.{IsStep, tick_loss}
 use Rattle.uniformise.proofs.Beats.{mean_zero, room, all_products}
 use Rattle.uniformise.proofs.workspace.gather.Goals as goal

@@ -1,7 +1,7 @@
 use Rattle.std.proofs.Common.{◌≡◌, ◌+◌, ◌*◌, ◌≤◌, vec_len}
 use Rattle.sil_model.specs.Sizes.{states_of}
 use Rattle.sil_model.specs.WeightTable.{weight_of, mean_weight_of}
-use Rattle.block_laws.specs.Block.{IsTicked, IsGathered}
+use Rattle.vector_laws.specs.Block.{IsTicked, IsGathered}
 use Rattle.uniformise.specs.Beat.{IsStep, tick_loss, tick_products}
 use Rattle.uniformise.proofs.workspace.gather.Given as goal
 

@@ -1,6 +1,6 @@
 use Rattle.std.proofs.Common.{◌≡◌, ◌+◌, ◌^◌, ◌<◌, ◌*◌, length, slice_index, sym, ap, ◌∙◌, arith}
 use Rattle.std.proofs.lemmas.List.{get_or_read}
-use Rattle.dense_power.specs.Matrix.{Matrix}
+use Rattle.vector_laws.specs.Matrix.{Matrix}
 use Rattle.dense_power.proofs.Places.{room_at}
 use Rattle.dense_power.proofs.dense.Dense.add.Goals as goal
 

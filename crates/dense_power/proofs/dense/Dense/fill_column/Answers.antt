@@ -1,7 +1,7 @@
 use Rattle.std.proofs.Common.{◌≡◌, ◌*◌, ◌/◌, ◌^◌, slice_index, ap, ◌∙◌, arith, inl, inr}
 use Rattle.std.proofs.lemmas.Bool.{cases_lt}
 use Rattle.sil_fraction.specs.Sum.{sum_below}
-use Rattle.dense_power.specs.Matrix.{entry_of}
+use Rattle.vector_laws.specs.Matrix.{entry_of}
 use Rattle.dense_power.proofs.Products.{sum-same_row}
 use Rattle.dense_power.proofs.dense.Dense.fill_column.Goals as goal
 

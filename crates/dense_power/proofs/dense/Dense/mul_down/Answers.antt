@@ -1,6 +1,6 @@
 use Rattle.std.proofs.Common.{◌≡◌, ℕ, ◌+◌, ◌*◌, ◌/◌, ◌^◌, ◌<◌, ap, ◌∙◌, arith, inl, inr}
 use Rattle.std.proofs.lemmas.Bool.{cases_lt}
-use Rattle.dense_power.specs.Matrix.{Matrix, entry_of, product_of}
+use Rattle.vector_laws.specs.Matrix.{Matrix, entry_of, product_of}
 use Rattle.dense_power.proofs.Products.{sum-same_column, mul-square, product_small}
 use Rattle.dense_power.proofs.dense.Dense.mul_down.Goals as goal
 

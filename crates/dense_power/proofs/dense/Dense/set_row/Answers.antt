@@ -1,5 +1,5 @@
 use Rattle.std.proofs.Common.{arith}
-use Rattle.dense_power.proofs.RowVectors.{row_is, same_row}
+use Rattle.vector_laws.proofs.RowVectors.{row_is, same_row}
 use Rattle.dense_power.proofs.dense.Dense.set_row.Goals as goal
 
 pub returns-clause-row : goal.returns-clause-row

@@ -1,5 +1,5 @@
 use Rattle.std.proofs.Common.{◌≡◌, ℕ, ◌<◌, ◌≢◌, slice_index}
-use Rattle.dense_power.specs.Matrix.{entry_of}
+use Rattle.vector_laws.specs.Matrix.{entry_of}
 use Rattle.dense_power.proofs.dense.Dense.set_row.Given as goal
 
 abbrev pub invariant-loop-j : goal.invariant-loop-j

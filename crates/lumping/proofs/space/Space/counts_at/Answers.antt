@@ -1,6 +1,6 @@
 use Rattle.sil_model.specs.LoopValue.{groups_of}
 use Rattle.sil_model.specs.Sizes.{states_of}
-use Rattle.lumping.proofs.Numbering.{counts_numbered-valid, number_of-counts_numbered}
+use Rattle.count_laws.proofs.Numbering.{counts_numbered-valid, number_of-counts_numbered}
 use Rattle.lumping.proofs.space.Space.counts_at.Goals as goal
 
 pub write_counts-requires-clause-number : goal.write_counts-requires-clause-number

@@ -1,6 +1,6 @@
 use Rattle.sil_model.specs.LoopValue.{groups_of}
 use Rattle.sil_model.specs.Sizes.{states_of}
-use Rattle.lumping.proofs.Numbering.{number_of-small, counts_numbered-number_of}
+use Rattle.count_laws.proofs.Numbering.{number_of-small, counts_numbered-number_of}
 use Rattle.lumping.proofs.space.Space.rank.Goals as goal
 
 pub returns-clause-below : goal.returns-clause-below

@@ -1,7 +1,7 @@
 use Rattle.std.proofs.Common.{arith, ap, ◌∙◌}
 use Rattle.sil_model.specs.LoopValue.{groups_of}
 use Rattle.sil_model.specs.Sizes.{states_of, states_over}
-use Rattle.lumping.proofs.Numbering.{states-positive}
+use Rattle.count_laws.proofs.Numbering.{states-positive}
 use Rattle.lumping.proofs.space.Space.size.Goals as goal
 
 pub returns-clause-size : goal.returns-clause-size

@@ -1,6 +1,6 @@
 use Rattle.std.proofs.Common.{◌≡◌, arith}
 use Rattle.std.proofs.lemmas.List.Elements.{All-push}
-use Rattle.dense_power.specs.Matrix.{Matrix}
+use Rattle.vector_laws.specs.Matrix.{Matrix}
 use Rattle.phase_powers.proofs.matrices.Matrices.new.Goals as goal
 
 pub loop-preserved : goal.loop-preserved

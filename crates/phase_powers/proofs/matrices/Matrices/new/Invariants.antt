@@ -1,5 +1,5 @@
 use Rattle.std.proofs.Common.{◌≡◌, vec_len, All}
-use Rattle.dense_power.specs.Matrix.{Matrix}
+use Rattle.vector_laws.specs.Matrix.{Matrix}
 use Rattle.phase_powers.proofs.matrices.Matrices.new.Given as goal
 
 abbrev pub invariant-loop : goal.invariant-loop

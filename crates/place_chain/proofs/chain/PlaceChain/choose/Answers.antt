@@ -3,7 +3,6 @@ use Rattle.std.specs.Prelude.{Bool, true, false}
 use Rattle.sil_model.specs.Budget.{lumped_events_of}
 use Rattle.sil_model.specs.Sizes.{states_of}
 use Rattle.sil_model.specs.declared.parts.Subsystem.{Subsystem}
-use Rattle.product_chain.specs.Kept.{events_number}
 use Rattle.product_chain.proofs.Chains.{written}
 use Rattle.place_chain.specs.Places.{ArePlaces, AreCompact}
 use Rattle.place_chain.specs.PlaceChain.{PlaceChainValue}
@@ -83,7 +82,7 @@ returns-clause-held g c =
     apart f = cc
 
 -- three sweeps over the columns of a chain
-three_sweeps : (us : List Subsystem) (entries size a s : ℕ) → entries ≤ states_of us * (events_number us + 1) → size ≡ states_of us
+three_sweeps : (us : List Subsystem) (entries size a s : ℕ) → entries ≤ states_of us * (lumped_events_of us + 1) → size ≡ states_of us
     → s ≤ a + 3 * (entries + size) → s ≤ a + choice_products us
 unfolding lumped_events_of
 three_sweeps us entries size a s few e counted = omega (arith, few, e, counted)

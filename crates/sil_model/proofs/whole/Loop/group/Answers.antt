@@ -15,12 +15,12 @@ loop-i-init c =
 
 pub loop-i-preserved : goal.loop-i-preserved
 loop-i-preserved c =
-    let e = c.groups_in-count.ensures c.loop-i.i in
+    let e = c.groups-count.ensures.groups c.loop-i.i in
     let n = length-next c.deref-u-items.result.now c.loop-i.i c.u-item.result c.loop-i-test.true c.u-item.is in
     record {
-      within = omega (arith, e, n, c.loop-i.invariant.within, c.from-left.ensures, c.if-left-from.false, c.from.ensures);
+      within = omega (arith, e, n, c.loop-i.invariant.within, c.if-left-count.false);
       same = λ d.
-          let k : length (groups_by_test c.loop-i.i c.u-item.result.vote.n c.u-item.result.test) ≡ c.from-left.result = omega (arith, e, c.from-left.ensures) in
-          let later = group-later c.deref-u-items.result.now c.loop-i.i c.u-item.result c.loop-i-test.true c.u-item.is c.loop-i.left d (omega (arith, k, c.if-left-from.false, c.from.ensures, c.from-left.ensures)) in
+          let k : length (groups_by_test c.loop-i.i c.u-item.result.vote.n c.u-item.result.test) ≡ c.groups-count.result = sym e in
+          let later = group-later c.deref-u-items.result.now c.loop-i.i c.u-item.result c.loop-i-test.true c.u-item.is c.loop-i.left d (omega (arith, k, c.if-left-count.false)) in
           rw (← k) (sym later ∙ c.loop-i.invariant.same d);
     }

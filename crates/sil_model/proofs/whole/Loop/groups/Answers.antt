@@ -17,8 +17,7 @@ overflow_add-count c =
       e,
       c.loop-u.invariant,
       length-next c.deref-u-items.result.now c.loop-u.u-index c.u-item.result c.loop-u-test.true c.u-item.is,
-      c.groups_in.ensures c.loop-u.u-index,
-      c.from-count.ensures,
+      c.groups-count.ensures.groups c.loop-u.u-index,
     )
 
 pub loop-u-preserved : goal.loop-u-preserved
@@ -27,8 +26,7 @@ loop-u-preserved c =
       arith,
       c.loop-u.invariant,
       length-next c.deref-u-items.result.now c.loop-u.u-index c.u-item.result c.loop-u-test.true c.u-item.is,
-      c.groups_in.ensures c.loop-u.u-index,
-      c.from-count.ensures,
+      c.groups-count.ensures.groups c.loop-u.u-index,
     )
 
 -- all groups are counted after the last subsystem

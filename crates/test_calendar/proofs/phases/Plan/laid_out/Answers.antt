@@ -3,8 +3,8 @@ use Rattle.std.proofs.lemmas.List.{length-map}
 use Rattle.std.specs.Prelude.{map}
 use Rattle.sil_model.specs.Calendar.{phases_from, phases_of}
 use Rattle.sil_model.specs.LoopValue.{LoopValue, IsValid}
-use Rattle.test_calendar.proofs.PhaseList.{length-phases}
-use Rattle.test_calendar.proofs.PhasesOfLoop.{phases_of_few}
+use Rattle.schedule_laws.proofs.PhaseList.{length-phases}
+use Rattle.schedule_laws.proofs.PhasesOfLoop.{phases_of_few}
 use Rattle.test_calendar.specs.declared.hours.Stop.{Stop}
 use Rattle.test_calendar.proofs.TestHours.{phases_found, lasting, tests_found, channels_found}
 use Rattle.test_calendar.proofs.phases.Plan.laid_out.Goals as goal

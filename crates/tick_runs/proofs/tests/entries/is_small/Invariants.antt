@@ -1,5 +1,5 @@
 use Rattle.std.proofs.Common.{ℕ, ◌<◌, ◌≤◌}
-use Rattle.dense_power.specs.Matrix.{entry_of}
+use Rattle.vector_laws.specs.Matrix.{entry_of}
 use Rattle.tick_runs.proofs.tests.entries.is_small.Given as goal
 
 abbrev pub invariant-loop-i : goal.invariant-loop-i

@@ -1,5 +1,5 @@
 use Rattle.std.proofs.Common.{ℕ, ◌^◌, ◌<◌, ◌≤◌, sum}
-use Rattle.dense_power.specs.Rows.{row_of}
+use Rattle.vector_laws.specs.Rows.{row_of}
 use Rattle.tick_runs.proofs.tests.powers.are_rows_small.Given as goal
 
 abbrev pub invariant-loop-i : goal.invariant-loop-i

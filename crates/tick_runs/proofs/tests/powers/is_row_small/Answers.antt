@@ -2,7 +2,7 @@ use Rattle.std.proofs.Common.{◌≡◌, refl, sym, arith}
 use Rattle.std.proofs.lemmas.Bool.{leb-true}
 use Rattle.sil_fraction.proofs.Sums.{sum-none}
 use Rattle.dense_power.proofs.Products.{sum_more}
-use Rattle.dense_power.proofs.RowVectors.{sum-row_of}
+use Rattle.vector_laws.proofs.RowVectors.{sum-row_of}
 use Rattle.tick_runs.proofs.tests.powers.is_row_small.Goals as goal
 
 pub loop-j-init : goal.loop-j-init

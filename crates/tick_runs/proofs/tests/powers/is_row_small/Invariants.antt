@@ -1,6 +1,6 @@
 use Rattle.std.proofs.Common.{◌≡◌, ◌*◌, ◌^◌, ◌≤◌}
 use Rattle.sil_fraction.specs.Sum.{sum_below}
-use Rattle.dense_power.specs.Matrix.{entry_of}
+use Rattle.vector_laws.specs.Matrix.{entry_of}
 use Rattle.tick_runs.proofs.tests.powers.is_row_small.Given as goal
 
 abbrev pub invariant-loop-j : goal.invariant-loop-j

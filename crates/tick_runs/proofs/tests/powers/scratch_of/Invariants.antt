@@ -1,5 +1,5 @@
 use Rattle.std.proofs.Common.{◌≡◌, All, vec_len}
-use Rattle.dense_power.specs.Matrix.{Matrix}
+use Rattle.vector_laws.specs.Matrix.{Matrix}
 use Rattle.tick_runs.proofs.tests.powers.scratch_of.Given as goal
 
 abbrev pub invariant-loop : goal.invariant-loop

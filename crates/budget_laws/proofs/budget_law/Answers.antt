@@ -1,5 +1,0 @@
-use Rattle.budget_laws.proofs.Small.{budget_small, width_small}
-use Rattle.budget_laws.proofs.budget_law.Goals as goal
-
-pub returns : goal.returns
-returns c = record { budget = budget_small; pfd_width = width_small }

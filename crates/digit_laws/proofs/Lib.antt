@@ -1,9 +1,0 @@
-pub mod Numbers
-pub mod TwoDigits
-pub mod Along
-pub mod Units
-pub mod Commuting
-pub mod DigitSums
-pub mod Vectors
-pub mod DigitLaws
-pub mod MatrixLaws

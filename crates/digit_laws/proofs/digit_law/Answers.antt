@@ -1,5 +1,0 @@
-use Rattle.digit_laws.proofs.DigitLaws.{digit_law}
-use Rattle.digit_laws.proofs.digit_law.Goals as goal
-
-pub returns : goal.returns
-returns c = digit_law

@@ -1,5 +1,0 @@
-use Rattle.digit_laws.proofs.MatrixLaws.{matrix_law}
-use Rattle.digit_laws.proofs.matrix_law.Goals as goal
-
-pub returns : goal.returns
-returns c = matrix_law

@@ -1,3 +1,0 @@
-pub mod Arrived
-pub mod PhasePays
-pub mod PhaseFigures

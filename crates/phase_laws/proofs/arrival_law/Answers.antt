@@ -1,5 +1,0 @@
-use Rattle.phase_laws.proofs.Arrived.{arrival_laws}
-use Rattle.phase_laws.proofs.arrival_law.Goals as goal
-
-pub returns : goal.returns
-returns c = arrival_laws

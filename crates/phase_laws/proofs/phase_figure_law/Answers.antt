@@ -1,5 +1,0 @@
-use Rattle.phase_laws.proofs.PhaseFigures.{phase_figure_laws}
-use Rattle.phase_laws.proofs.phase_figure_law.Goals as goal
-
-pub returns : goal.returns
-returns c = phase_figure_laws

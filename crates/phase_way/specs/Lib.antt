@@ -1,0 +1,4 @@
+pub mod Ways
+pub mod Choice
+pub mod Rooms
+pub mod Passed
