@@ -1,4 +1,3 @@
-pub mod Bands
 pub mod Complete
 pub mod FileRows
 pub mod Kept
