@@ -5,5 +5,5 @@ pub mod Loading
 pub mod Programs
 pub mod Refused
 pub mod Reports
-pub mod SeriesTells
+pub mod Watchers
 pub mod Told
