@@ -1,5 +1,5 @@
 -- What the watchers of the program tell of a loop: they took in one list of true records, one of each phase.
-use Rattle.std.specs.Prelude.{◌≡◌, ℕ, ◌^◌, ◌<◌, ◌≤◌, Bool, true, List, [], ◌++◌, length, map, sum_by, slice_index_or, Option, Some, None, if◌then◌else◌}
+use Rattle.std.specs.Prelude.{◌≡◌, ℕ, ◌^◌, ◌<◌, ◌≤◌, Bool, true, List, [], ◌++◌, length, map, sum_by, slice_index_or, Some, None, if◌then◌else◌}
 use Rattle.std.specs.List.{IsFirstMaxByKey}
 use Rattle.sil_fraction.specs.Fraction.{◌*ℚ◌, ◌≤ℚ◌, whole}
 use Rattle.sil_model.specs.LoopValue.{LoopValue, IsValid}
