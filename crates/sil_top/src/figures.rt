@@ -4,7 +4,7 @@ ghost use Rattle.std.specs.Prelude.{◌≡◌, ◌<◌, ◌++◌, true, ℕ, Lis
 ghost use Rattle.sil_report.specs.Reports.{IsReport};
 ghost use Rattle.sil_watch.specs.Lines.{lines_of_all};
 ghost use Rattle.sil_words.specs.Language.{IsLevel};
-ghost use Rattle.sil_top.specs.Report.{ReportsFixFigures, SeriesTells};
+ghost use Rattle.sil_top.specs.Report.{ReportsFixFigures};
 ghost use Rattle.sil_top.specs.Run.{IsCalledBy, IsReported, is_shown, within_limits};
 ghost use Rattle.sil_top.specs.Causes.{outcome_of};
 
@@ -102,9 +102,4 @@ fn status_of(need: Option<u8>, mode: Mode, pfd: Band, pfh: Band) -> Status
 /// A report tells its figures: no other ends and no other bands have the same text.
 pub fn reports_fix_figures()
     ensures { ReportsFixFigures }
-{}
-
-/// A series that had no record before tells, where it is asked for, the lines of one true record of each phase, in order.
-pub fn series_tells()
-    ensures { SeriesTells }
 {}

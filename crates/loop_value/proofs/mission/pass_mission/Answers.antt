@@ -1,6 +1,7 @@
 use Rattle.std.proofs.Common.{◌≡◌, ℕ, ◌+◌, ◌-◌, ◌*◌, suc, length, get_or, List, refl, ap, ◌∙◌, arith}
 use Rattle.sil_model.specs.Calendar.{Phase, phases_of, beats_of}
 use Rattle.sil_model.specs.Figures.{no_phase}
+use Rattle.sil_model.specs.Sizes.{most_beats}
 use Rattle.schedule_laws.proofs.PhasesOfLoop.{length-phases_of}
 use Rattle.mission_laws.proofs.Losses.{beats-more, group_tests-more, group_tests-all}
 use Rattle.uniformise.specs.Beat.{beat_products}
@@ -61,7 +62,7 @@ returns-in_err-pass_to_next-clause-refused g c =
 pub pass_phase-requires-clause-few : goal.pass_phase-requires-clause-few
 pass_phase-requires-clause-few g c =
     let phases : c.phases-last.result ≡ length (phases_of c.args.l.now) = c.phases-last.ensures.phases ∙ ap (λ (ps : List Phase). length ps) c.requires.plan.phases in
-    few_beats c.args.l.now (c.phases-last.result - 1) c.hours.result 1_000_000 (omega (arith, phases, c.phases-last.ensures.some))
+    few_beats c.args.l.now (c.phases-last.result - 1) c.hours.result most_beats (omega (arith, phases, c.phases-last.ensures.some))
     (hours-at c.args.plan.now.phases c.args.l.now (c.phases-last.result - 1) c.hours.result (c.hours.ensures.hours no_phase) c.requires.plan.phases) c.requires.few
 
 pub pass_phase-requires-clause-room : goal.pass_phase-requires-clause-room

@@ -3,6 +3,7 @@ use Rattle.std.specs.Prelude.{map}
 use Rattle.sil_model.specs.Calendar.{phases_of, test_hours_of, beats_of}
 use Rattle.sil_model.specs.Figures.{no_phase}
 use Rattle.sil_model.specs.LoopValue.{LoopValue}
+use Rattle.sil_model.specs.Sizes.{most_beats}
 use Rattle.test_calendar.specs.declared.groups.GroupTest.{GroupTest}
 use Rattle.test_calendar.specs.GroupTests.{group_tests_at}
 use Rattle.test_matrix.specs.HourTests.{Exist}
@@ -18,7 +19,7 @@ use Rattle.loop_value.proofs.mission.pass_to_next.Goals as goal
 
 pub pass_phase-requires-clause-few : goal.pass_phase-requires-clause-few
 pass_phase-requires-clause-few g c =
-    few_beats c.args.l.now c.args.p c.hours.result 1_000_000 (omega (arith, c.requires.more))
+    few_beats c.args.l.now c.args.p c.hours.result most_beats (omega (arith, c.requires.more))
     (hours-at c.args.plan.now.phases c.args.l.now c.args.p c.hours.result (c.hours.ensures.hours no_phase) c.requires.plan.phases) c.requires.few
 
 pub pass_phase-requires-clause-room : goal.pass_phase-requires-clause-room
