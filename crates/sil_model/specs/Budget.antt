@@ -3,11 +3,12 @@
 use Rattle.std.specs.Prelude.{ℕ, suc, ◌+◌, ◌-◌, ◌*◌, ◌/◌, ◌^◌, List, [], ◌∷◌, length, filter, sum_by, Option, Some, None}
 use Rattle.sil_model.specs.LoopValue.{LoopValue, groups_of, groups_by_test}
 use Rattle.sil_model.specs.Calendar.{is_tested, test_hours_of, phases_of}
-use Rattle.sil_model.specs.Sizes.{states_of, all_beats_of}
+use Rattle.sil_model.specs.Sizes.{states_in, states_of, all_beats_of}
 use Rattle.sil_model.specs.WeightTable.{missing_of}
 use Rattle.sil_model.specs.declared.parts.Subsystem.{Subsystem}
 use Rattle.sil_model.specs.declared.parts.TestPlan.{TestPlan}
 use Rattle.sil_model.specs.declared.parts.Group.{Group}
+use Rattle.sil_model.specs.declared.parts.Version.{Version}
 
 -- the rate at which one channel fails by itself, and that at which common causes come, in 10^-18 per hour: of the rates
 -- du and dd the shares beta and beta_d are common causes
@@ -21,9 +22,9 @@ together_units_of u = 1000 * (u.figures.beta * u.figures.du + u.figures.beta_d *
 unfoldable pub failure_rate_of : List Subsystem → ℕ
 failure_rate_of us = sum_by (λ u. u.vote.n * alone_units_of u + together_units_of u) us
 
--- how many events a group has: those of one of its channels
-abbrev pub group_events : ℕ
-group_events = 4
+-- how many events a group has: those of one of its channels, three failures and a return from each kind of repair
+abbrev pub group_events : Version → ℕ
+group_events v = states_in v
 
 -- how many common causes a subsystem has
 abbrev pub common_causes : ℕ
@@ -31,7 +32,7 @@ common_causes = 3
 
 -- how many events lead from a count vector: those of the groups, and the common causes of the subsystems
 unfoldable pub lumped_events_of : List Subsystem → ℕ
-lumped_events_of us = group_events * length (groups_of us) + common_causes * length us
+lumped_events_of us = sum_by (λ g. group_events g.version) (groups_of us) + common_causes * length us
 
 module _ (mission t : ℕ) where
   -- how many of these groups are tested at the hour t: those whose first channel is
@@ -42,7 +43,7 @@ module _ (mission t : ℕ) where
   -- those of the subsystems from the number i on
   abbrev pub tested_from : ℕ → List Subsystem → ℕ
   tested_from i [] = 0
-  tested_from i (u ∷ us) = tested_among u.test (groups_by_test i u.vote.n u.test) + tested_from (suc i) us
+  tested_from i (u ∷ us) = tested_among u.test (groups_by_test u.version i u.vote.n u.test) + tested_from (suc i) us
 
 -- how many groups are tested at the hour t
 unfoldable pub group_tests_in : LoopValue → ℕ → ℕ

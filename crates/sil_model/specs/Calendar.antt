@@ -4,12 +4,23 @@ use Rattle.sil_fraction.specs.Fraction.{Fraction, ratio}
 use Rattle.sil_model.specs.declared.parts.Subsystem.{Subsystem}
 use Rattle.sil_model.specs.declared.parts.TestPlan.{TestPlan}
 use Rattle.sil_model.specs.LoopValue.{LoopValue}
+use Rattle.sil_model.specs.declared.parts.Chan.{Chan}
+use Rattle.sil_model.specs.declared.parts.Chan.TheVariants.{Repair, Found}
+use Rattle.sil_model.specs.declared.parts.Version.{Version}
+use Rattle.sil_model.specs.declared.parts.Version.TheVariants.{First, Second}
 
--- a test of a channel: the channel's number in the loop, whether the test is full, and the chance that it leaves a fault
+-- a test of a channel: the channel's number in the loop, whether the test is full, the chance that it leaves a fault, and the
+-- state of a channel whose failure it finds
 pub record ChannelTest : Type 0 where
   pub channel : ℕ
   pub full : Bool
   pub fault : Fraction
+  pub found : Chan
+
+-- where a proof test finds a failure
+abbrev pub found_in : Version → Chan
+found_in First = Repair
+found_in Second = Found
 
 -- the hour of the first test of the channel i of a subsystem
 abbrev pub first_test : TestPlan → ℕ → ℕ
@@ -27,7 +38,7 @@ module _ (mission t : ℕ) where
   abbrev pub test_of : Subsystem → Option TestPlan → ℕ → ℕ → List ChannelTest
   test_of u None i c = []
   test_of u (Some p) i c = if is_tested p i
-      then record { channel = c; full = is_full p i; fault = ratio u.figures.restart_fault 1_000_000 } ∷ []
+      then record { channel = c; full = is_full p i; fault = ratio u.figures.restart_fault 1_000_000; found = found_in u.version } ∷ []
       else []
 
   -- those of the n channels from i on
@@ -75,9 +86,13 @@ phases_of l = phases_from l.mission 0 (test_hours_of l)
 abbrev pub ceiling : ℕ → ℕ → ℕ
 ceiling n d = (n + (d - 1)) / d
 
--- the beat rate, in 10^-12 per hour: the sum over all channels of du, dd and the repair rate
+-- the greater of the two repair rates of a channel, in 10^-12 per hour
+abbrev pub repair_rate_of : Subsystem → ℕ
+repair_rate_of u = max (ceiling (10 ^ 12) u.figures.repair) (ceiling (10 ^ 12) u.figures.mrt)
+
+-- the beat rate, in 10^-12 per hour: the sum over all channels of du, dd and the greater repair rate
 unfoldable pub beat_rate_of : List Subsystem → ℕ
-beat_rate_of us = sum_by (λ u. u.vote.n * (u.figures.du + u.figures.dd + ceiling (10 ^ 12) u.figures.repair)) us
+beat_rate_of us = sum_by (λ u. u.vote.n * (u.figures.du + u.figures.dd + repair_rate_of u)) us
 
 -- the beats of a phase of t hours: the least number that is at least 1 and at least t times the beat rate
 unfoldable pub beats_of : List Subsystem → ℕ → ℕ

@@ -1,8 +1,9 @@
 -- Count vectors: how many channels of each group are in each state, a number for each state; and their numbering.
 use Rattle.std.specs.Prelude.{◌≡◌, ℕ, zero, suc, ◌+◌, ◌-◌, ◌*◌, ◌/◌, ◌%◌, ◌<◌, List, [], ◌∷◌, ◌++◌, length, replicate, take, drop, slice_index, slice_index_or, slice_set, if◌then◌else◌, nat_le}
-use Rattle.sil_model.specs.Sizes.{channel_states, shares_of}
+use Rattle.sil_model.specs.Sizes.{channel_states, states_in, shares_of}
 use Rattle.sil_model.specs.declared.parts.Chan.{Chan}
-use Rattle.sil_model.specs.declared.parts.Chan.TheVariants.{Work, Hidden, Deep, Repair}
+use Rattle.sil_model.specs.declared.parts.Chan.TheVariants.{Work, Hidden, Deep, Repair, Found}
+use Rattle.sil_model.specs.declared.parts.Version.TheVariants.{First}
 use Rattle.sil_model.specs.declared.parts.Group.{Group}
 
 -- the place of a state among the counts of a group
@@ -11,15 +12,17 @@ place_of Work = 0
 place_of Hidden = 1
 place_of Deep = 2
 place_of Repair = 3
+place_of Found = 4
 
 -- how many channels of the group g are in a state
 abbrev pub count_in : List ℕ → ℕ → Chan → ℕ
 count_in cs g k = slice_index cs (channel_states * g + place_of k)
 
--- a count for each state of each group, with the group's size as their sum
+-- a count for each state of each group, with the group's size as their sum; no channel is in Found in the first version
 pub record IsCounts (gs : List Group) (cs : List ℕ) : Type 0 where
   pub each : length cs ≡ channel_states * length gs
-  pub sums : (g : ℕ) (d : Group) → g < length gs → count_in cs g Work + count_in cs g Hidden + count_in cs g Deep + count_in cs g Repair ≡ (slice_index_or gs g d).size
+  pub sums : (g : ℕ) (d : Group) → g < length gs → count_in cs g Work + count_in cs g Hidden + count_in cs g Deep + count_in cs g Repair + count_in cs g Found ≡ (slice_index_or gs g d).size
+  pub found : (g : ℕ) (d : Group) → g < length gs → (slice_index_or gs g d).version ≡ First → count_in cs g Found ≡ 0
 
 -- at the start every channel works
 unfoldable pub counts_at_start : List Group → List ℕ
@@ -67,9 +70,11 @@ list_numbered (suc k) n i =
 -- the number of a count vector: a digit for each group, that of the first group being the least
 unfoldable pub number_of : List Group → List ℕ → ℕ
 number_of [] cs = 0
-number_of (g ∷ gs) cs = number_of gs (drop channel_states cs) * shares_of g.size + list_number (take channel_states cs)
+number_of (g ∷ gs) cs = number_of gs (drop channel_states cs) * shares_of g.version g.size + list_number (take (states_in g.version) cs)
 
 -- the count vector that has a number
 unfoldable pub counts_numbered : List Group → ℕ → List ℕ
 counts_numbered [] i = []
-counts_numbered (g ∷ gs) i = list_numbered (channel_states - 1) g.size (i % shares_of g.size) ++ counts_numbered gs (i / shares_of g.size)
+counts_numbered (g ∷ gs) i =
+    list_numbered (states_in g.version - 1) g.size (i % shares_of g.version g.size) ++ replicate (channel_states - states_in g.version) 0
+    ++ counts_numbered gs (i / shares_of g.version g.size)

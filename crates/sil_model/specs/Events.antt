@@ -4,7 +4,9 @@ use Rattle.sil_fraction.specs.Fraction.{Fraction, ◌+ℚ◌, ◌*ℚ◌, ◌-�
 use Rattle.sil_fraction.specs.Sum.{total}
 use Rattle.sil_model.specs.State.{FullState, is_same_state, is_same_chan, count_of}
 use Rattle.sil_model.specs.declared.parts.Chan.{Chan}
-use Rattle.sil_model.specs.declared.parts.Chan.TheVariants.{Work, Hidden, Deep, Repair}
+use Rattle.sil_model.specs.declared.parts.Chan.TheVariants.{Work, Hidden, Deep, Repair, Found}
+use Rattle.sil_model.specs.declared.parts.Version.{Version}
+use Rattle.sil_model.specs.declared.parts.Version.TheVariants.{First, Second}
 use Rattle.sil_model.specs.declared.parts.Subsystem.{Subsystem}
 
 -- an event has a rate per hour at each full state, and a map of full states
@@ -24,21 +26,31 @@ failed Undetected = Hidden
 failed Uncovered = Deep
 failed Detected = Repair
 
+-- how a channel comes back from repair: of a failure that was known when it came, or of one that a proof test has found
+pub data Return : Type 0 where
+  Known Tested : Return
+
+abbrev pub returned : Return → Chan
+returned Known = Repair
+returned Tested = Found
+
 -- what may happen to one channel
 pub data Kind : Type 0 where
   Fails : Failure → Kind
-  Returns : Kind
+  Returns : Return → Kind
 
-abbrev pub kinds : List Kind
-kinds = Fails Undetected ∷ Fails Uncovered ∷ Fails Detected ∷ Returns ∷ []
+-- in the first version what tests find is repaired as what is known at once
+abbrev pub kinds : Version → List Kind
+kinds First = Fails Undetected ∷ Fails Uncovered ∷ Fails Detected ∷ Returns Known ∷ []
+kinds Second = Fails Undetected ∷ Fails Uncovered ∷ Fails Detected ∷ Returns Known ∷ Returns Tested ∷ []
 
 abbrev pub source : Kind → Chan
 source (Fails f) = Work
-source Returns = Repair
+source (Returns r) = returned r
 
 abbrev pub target : Kind → Chan
 target (Fails f) = failed f
-target Returns = Work
+target (Returns r) = Work
 
 -- a channel goes from one state to another, if it stands there
 abbrev pub moved : Chan → Chan → Chan → Chan
@@ -74,7 +86,7 @@ rest_of x = whole 1 -ℚ x
 
 -- how many of the n channels from the number a on are being repaired
 abbrev pub in_repair_of : ℕ → ℕ → FullState → ℕ
-in_repair_of a n s = count_of Repair (take n (drop a s))
+in_repair_of a n s = count_of Repair (take n (drop a s)) + count_of Found (take n (drop a s))
 
 -- the share of its repair rate that each channel has where so many channels of its subsystem are being repaired
 unfoldable pub share_of : Subsystem → ℕ → Fraction
@@ -93,14 +105,19 @@ module _ (u : Subsystem) where
   common_rate Uncovered = thousandths u.figures.beta *ℚ rest_of (thousandths u.figures.coverage) *ℚ per_hour u.figures.du
   common_rate Detected = thousandths u.figures.beta_d *ℚ per_hour u.figures.dd
 
+  -- the mean hours of a repair: MTTR where the failure was known when it came, MRT where a proof test has found it
+  abbrev pub repair_hours : Return → ℕ
+  repair_hours Known = u.figures.repair
+  repair_hours Tested = u.figures.mrt
+
   -- the rate of a kind of event, in a subsystem whose channels begin with the number a
   abbrev pub rate_at : ℕ → Kind → FullState → Fraction
   rate_at a (Fails f) s = failure_rate f
-  rate_at a Returns s = share_of u (in_repair_of a u.vote.n s) *ℚ ratio 1 u.figures.repair
+  rate_at a (Returns r) s = share_of u (in_repair_of a u.vote.n s) *ℚ ratio 1 (repair_hours r)
 
   -- the events of the channel of the number i
   abbrev pub channel_events : ℕ → ℕ → List Event
-  channel_events a i = map (λ k. record { rate = rate_at a k; move = move_one i (source k) (target k) }) kinds
+  channel_events a i = map (λ k. record { rate = rate_at a k; move = move_one i (source k) (target k) }) (kinds u.version)
 
   -- those of the first n channels
   abbrev pub channels_events : ℕ → ℕ → List Event

@@ -7,7 +7,7 @@ use Rattle.sil_model.specs.Series.{beat_of, mean_of}
 use Rattle.sil_model.specs.Calendar.{ChannelTest, Phase, phases_of, tests_at, beats_of}
 use Rattle.sil_model.specs.LoopValue.{LoopValue}
 use Rattle.sil_model.specs.declared.parts.Chan.{Chan}
-use Rattle.sil_model.specs.declared.parts.Chan.TheVariants.{Work, Hidden, Deep, Repair}
+use Rattle.sil_model.specs.declared.parts.Chan.TheVariants.{Work, Hidden, Deep, Repair, Found}
 use Rattle.sil_model.specs.declared.parts.Subsystem.{Subsystem}
 
 -- an item of a schedule: a beat of so many hours, which counts or does not, or the tests of an hour
@@ -55,9 +55,10 @@ one_if b = if b then whole 1 else whole 0
 -- what is expected of f after a test of a channel that is in a state
 abbrev pub tested : ChannelTest → Chan → (FullState → Fraction) → FullState → Fraction
 tested t Work f s = t.fault *ℚ f (set s t.channel Hidden) +ℚ (whole 1 -ℚ t.fault) *ℚ f s
-tested t Hidden f s = f (set s t.channel Repair)
-tested t Deep f s = if t.full then f (set s t.channel Repair) else f s
+tested t Hidden f s = f (set s t.channel t.found)
+tested t Deep f s = if t.full then f (set s t.channel t.found) else f s
 tested t Repair f s = f s
+tested t Found f s = f s
 
 module _ (us : List Subsystem) where
   -- what is counted per hour of a beat; an up loop is entered down at the rate of the events that lead there

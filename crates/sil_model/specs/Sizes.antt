@@ -1,23 +1,31 @@
 -- How large the computation of a loop is, and its limits.
 use Rattle.std.specs.Prelude.{ℕ, ◌+◌, ◌*◌, ◌/◌, List, [], ◌∷◌, length, sum_by, Option, Some, None, if◌then◌else◌, nat_lt}
-use Rattle.sil_model.specs.LoopValue.{LoopValue, groups_of}
+use Rattle.sil_model.specs.LoopValue.{LoopValue, groups_of, version_of}
 use Rattle.sil_model.specs.Calendar.{phases_of, tests_at, beats_of, upto}
 use Rattle.sil_model.specs.declared.parts.Subsystem.{Subsystem}
 use Rattle.sil_model.specs.declared.parts.Group.{Group}
+use Rattle.sil_model.specs.declared.parts.Version.{Version}
+use Rattle.sil_model.specs.declared.parts.Version.TheVariants.{First, Second}
 use Rattle.sil_model.specs.declared.answers.LimitFault.{LimitFault}
 use Rattle.sil_model.specs.declared.answers.LimitFault.TheVariants.{TooManyTests, TooManyStates, TooManyBeats, TooMuchWork}
 
--- how many states a channel has, and so how many counts a group
+-- how many states there are, and so how many counts a group has
 abbrev pub channel_states : ℕ
-channel_states = 4
+channel_states = 5
 
--- in how many ways n equal channels share out over their states: C(n + 3, 3)
-abbrev pub shares_of : ℕ → ℕ
-shares_of n = (n + 1) * (n + 2) * (n + 3) / 6
+-- how many of them, the first ones, a channel of a loop of this version can be in
+abbrev pub states_in : Version → ℕ
+states_in First = 4
+states_in Second = 5
+
+-- in how many ways n equal channels share out over their states: C(n + 3, 3), and C(n + 4, 4)
+abbrev pub shares_of : Version → ℕ → ℕ
+shares_of First n = (n + 1) * (n + 2) * (n + 3) / 6
+shares_of Second n = (n + 1) * (n + 2) * (n + 3) * (n + 4) / 24
 
 abbrev pub states_over : List Group → ℕ
 states_over [] = 1
-states_over (g ∷ gs) = shares_of g.size * states_over gs
+states_over (g ∷ gs) = shares_of g.version g.size * states_over gs
 
 -- the lumped states: how many count vectors the groups have together
 unfoldable pub states_of : List Subsystem → ℕ
@@ -42,9 +50,14 @@ most_tests = 4_096
 abbrev pub most_beats : ℕ
 most_beats = 1_000_000
 
+-- the limit on states of the loops of a version
+abbrev pub most_states_in : Version → ℕ
+most_states_in First = 4_096
+most_states_in Second = 16_384
+
 -- the greatest limit of any loop: arrays have room for so many states
 abbrev pub most_states : ℕ
-most_states = 4_096
+most_states = 16_384
 
 -- the greatest limit of any loop: 2 ^ 34
 abbrev pub most_work : ℕ
@@ -52,7 +65,7 @@ most_work = 17_179_869_184
 
 -- the limits of one loop
 abbrev pub most_states_of : LoopValue → ℕ
-most_states_of l = most_states
+most_states_of l = most_states_in (version_of l.subsystems)
 
 abbrev pub most_work_of : LoopValue → ℕ
 most_work_of l = most_work

@@ -16,9 +16,10 @@ mod whole;
 pub use answers::{Band, Decimal18, LimitFault, Sizes, Value};
 pub use counter::Steps;
 pub use limits::{
-    MOST_BEATS, MOST_FILE_BYTES, MOST_STATES, MOST_TESTS, MOST_WORK, limits_are_those_of_the_model,
+    MOST_BEATS, MOST_FILE_BYTES, MOST_STATES, MOST_STATES_FIRST, MOST_TESTS, MOST_WORK,
+    limits_are_those_of_the_model,
 };
-pub use parts::{Chan, ChannelFigures, Group, InRepair, Subsystem, TestPlan, Vote};
-pub use states::{CHANNEL_STATES, shares};
+pub use parts::{Chan, ChannelFigures, Class, Group, InRepair, Subsystem, TestPlan, Version, Vote};
+pub use states::CHANNEL_STATES;
 pub use texts::Text;
 pub use whole::Loop;

@@ -11,8 +11,28 @@ pub enum Chan {
     Hidden,
     /// It has failed dangerously, and only a full proof test finds it.
     Deep,
-    /// Its failure is known, and it is being repaired.
+    /// Its failure was known when it came, and it is being repaired.
     Repair,
+    /// A proof test has found its failure, and it is being repaired; in loops of the second version alone.
+    Found,
+}
+
+/// The version of a loop, and of its file.
+#[derive(Clone, Copy, Debug, PartialEq, Eq)]
+pub enum Version {
+    /// Every repair takes the same mean time.
+    First,
+    /// A failure that a proof test has found is repaired in a time of its own (MRT).
+    Second,
+}
+
+/// The type of a subsystem's elements by IEC 61508-2: whether their failures are well known.
+#[derive(Clone, Copy, Debug, PartialEq, Eq)]
+pub enum Class {
+    /// Type A: all failure modes are well defined.
+    A,
+    /// Type B: some are not.
+    B,
 }
 
 /// How a channel votes while it is being repaired.
@@ -48,8 +68,16 @@ pub struct ChannelFigures {
     pub coverage: u16,
     /// Chance that a test leaves a working channel failed and hidden, in millionths, at most 1,000,000.
     pub restart_fault: u32,
-    /// Mean time to repair, in hours, from 1 to 8,760.
+    /// Mean time to repair (MTTR) of a failure that is known when it comes, in hours, from 1 to 8,760.
     pub repair: u32,
+    /// Mean repair time (MRT) of a failure that a proof test has found, in hours, from 1 to 8,760; `repair` in the first version.
+    pub mrt: u32,
+    /// How many repair crews the channels of the subsystem share; 8, which is one for each channel.
+    pub crews: u8,
+    /// Rate of safe failures, in 10^-12 per hour, at most 10^9; 0 in the first version.
+    pub safe: u64,
+    /// The type of the elements; B in the first version.
+    pub class: Class,
 }
 
 /// When the channels of a subsystem have their proof tests.
@@ -71,6 +99,8 @@ pub struct TestPlan {
 /// Equal channels that vote.
 #[derive(Drop)]
 pub struct Subsystem {
+    /// The version of its loop.
+    pub version: Version,
     /// Its name, of 1 to 32 printable ASCII characters.
     pub name: Text,
     /// Its MooN voting.
@@ -92,4 +122,6 @@ pub struct Group {
     pub first_channel: u8,
     /// How many channels it has, from 1 to 8.
     pub size: u8,
+    /// The version of its loop.
+    pub version: Version,
 }

@@ -1,11 +1,11 @@
 //! A whole loop.
 
 ghost use Rattle.std.specs.Prelude.{◌≡◌, ℕ, ◌<◌, ◌≤◌, length, slice_index_or};
-ghost use Rattle.sil_model.specs.LoopValue.{IsValid, groups_of, groups_by_test};
+ghost use Rattle.sil_model.specs.LoopValue.{IsValid, groups_of, groups_by_test, version_of};
 ghost use Rattle.sil_model.specs.declared.parts.Subsystem.{Subsystem};
 ghost use Rattle.sil_model.specs.declared.parts.Group.{Group};
 
-use crate::{Group, Subsystem};
+use crate::{Group, Subsystem, Version};
 use std::marker::Model;
 
 /// A safety loop: subsystems in series, over a mission. Its values are in their ranges, and its names are distinct.
@@ -56,6 +56,14 @@ impl Loop {
         self.order
     }
 
+    /// The version of the loop, which is that of each of its subsystems.
+    pub fn version(&self) -> Version
+        ensures version { result ≡ version_of self.now.subsystems }
+        ensures every { (i : ℕ) (d : Subsystem) → i < length self.now.subsystems → (slice_index_or self.now.subsystems i d).version ≡ result }
+    {
+        self.subsystems[0].version
+    }
+
     /// How many subsystems there are, from 1 to 6.
     pub fn len(&self) -> usize
         ensures len { result ≡ length self.now.subsystems }
@@ -104,19 +112,21 @@ impl Loop {
 
 /// The group of this number within the subsystem `i`.
 fn group_in(u: &Subsystem, i: u8, g: u8) -> Group
-    requires { g < length (groups_by_test i u.now.vote.n u.now.test) }
-    ensures { (d : Group) → result ≡ slice_index_or (groups_by_test i u.now.vote.n u.now.test) g d }
+    requires { g < length (groups_by_test u.now.version i u.now.vote.n u.now.test) }
+    ensures { (d : Group) → result ≡ slice_index_or (groups_by_test u.now.version i u.now.vote.n u.now.test) g d }
 {
     match u.test {
         Some(plan) if plan.stagger != 0 => Group {
             subsystem: i,
             first_channel: g,
             size: 1,
+            version: u.version,
         },
         _ => Group {
             subsystem: i,
             first_channel: 0,
             size: u.vote.n,
+            version: u.version,
         },
     }
 }

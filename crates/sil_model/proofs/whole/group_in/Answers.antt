@@ -4,5 +4,5 @@ use Rattle.sil_model.proofs.whole.group_in.Goals as goal
 
 pub returns-in-Some : goal.returns-in-Some
 returns-in-Some c d =
-    let e = length-staggered c.args.i c.args.u.now.vote.n c.args.u.now.test c.in-Some.plan c.in-Some.is c.if-plan-ne0.true in
-    sym (staggered-at c.args.i c.args.u.now.vote.n c.args.u.now.test c.in-Some.plan c.in-Some.is c.if-plan-ne0.true c.args.g d (omega (arith, e)))
+    let e = length-staggered c.args.u.now.version c.args.i c.args.u.now.vote.n c.args.u.now.test c.in-Some.plan c.in-Some.is c.if-plan-ne0.true in
+    sym (staggered-at c.args.u.now.version c.args.i c.args.u.now.vote.n c.args.u.now.test c.in-Some.plan c.in-Some.is c.if-plan-ne0.true c.args.g d (omega (arith, e)))

@@ -20,7 +20,7 @@ loop-i-preserved c =
     record {
       within = omega (arith, e, n, c.loop-i.invariant.within, c.if-left-count.false);
       same = λ d.
-          let k : length (groups_by_test c.loop-i.i c.u-item.result.vote.n c.u-item.result.test) ≡ c.groups-count.result = sym e in
+          let k : length (groups_by_test c.u-item.result.version c.loop-i.i c.u-item.result.vote.n c.u-item.result.test) ≡ c.groups-count.result = sym e in
           let later = group-later c.deref-u-items.result.now c.loop-i.i c.u-item.result c.loop-i-test.true c.u-item.is c.loop-i.left d (omega (arith, k, c.if-left-count.false)) in
           rw (← k) (sym later ∙ c.loop-i.invariant.same d);
     }
