@@ -3,7 +3,7 @@ use Rattle.std.proofs.Common.{◌≡◌, ◌≢◌, ◌≤◌, ℕ, ap, arith}
 use Rattle.sil_fraction.specs.Fraction.{◌*ℚ◌, ◌≤ℚ◌, whole, ratio}
 use Rattle.sil_fraction.proofs.Laws.{le_refl, le_of_same, le-whole}
 use Rattle.sil_model.specs.State.{FullState}
-use Rattle.sil_model.specs.Events.{share_of, in_repair_of, rate_at}
+use Rattle.sil_model.specs.Events.{Return, share_of, in_repair_of, rate_at, repair_hours}
 use Rattle.sil_model.specs.Events.Kind.{Returns}
 use Rattle.sil_model.specs.declared.parts.Subsystem.{Subsystem}
 
@@ -18,5 +18,6 @@ unfolding share_of
 share-at_most_one u n = le_refl _
 
 -- two states with as many channels of the subsystem in repair have one repair rate
-pub repair_rate-by_number : (u : Subsystem) (a : ℕ) (s t : FullState) → in_repair_of a u.vote.n s ≡ in_repair_of a u.vote.n t → rate_at u a Returns s ≡ rate_at u a Returns t
-repair_rate-by_number u a s t e = ap (λ n. share_of u n *ℚ ratio 1 u.figures.repair) e
+pub repair_rate-by_number : (u : Subsystem) (r : Return) (a : ℕ) (s t : FullState) → in_repair_of a u.vote.n s ≡ in_repair_of a u.vote.n t
+    → rate_at u a (Returns r) s ≡ rate_at u a (Returns r) t
+repair_rate-by_number u r a s t e = ap (λ n. share_of u n *ℚ ratio 1 (repair_hours u r)) e

@@ -14,7 +14,7 @@ use Rattle.sil_model.specs.Pay.Item.{Beat, Tests}
 use Rattle.sil_model.specs.Pay.Mode.{Down, Up}
 use Rattle.sil_model.specs.declared.parts.Subsystem.{Subsystem}
 use Rattle.sil_model.specs.declared.parts.Chan.{Chan}
-use Rattle.sil_model.specs.declared.parts.Chan.TheVariants.{Work, Hidden, Deep, Repair}
+use Rattle.sil_model.specs.declared.parts.Chan.TheVariants.{Work, Hidden, Deep, Repair, Found}
 use Rattle.model_laws.specs.Polynomial.{IsLinear}
 use Rattle.model_laws.specs.Hours.{hours_of, AreChances, IsShort, AreShort}
 use Rattle.model_laws.specs.Hours.AreChances.{none as no_chances, one}
@@ -31,8 +31,9 @@ module _ (t : ChannelTest) (likely : t.fault ≤ℚ whole 1) (f g : FullState �
       let e : (t.fault *ℚ f x +ℚ r *ℚ f s) +ℚ (t.fault *ℚ g x +ℚ r *ℚ g s) ≡ t.fault *ℚ (f x +ℚ g x) +ℚ r *ℚ (f s +ℚ g s) = add_swap _ _ _ _ ∙ sym (cc (mul-add t.fault (f x) (g x), mul-add r (f s) (g s))) in
       e ∙ cc (both x, both s) ∙ sym (add-mul t.fault r c) ∙ ap (λ y. y *ℚ c) (add_comm t.fault r ∙ sub-add (whole 1) t.fault likely) ∙ one-mul c
   tested-both Hidden s = both _
-  tested-both Deep s = elim t.full as (λ b. (if b then f (set s t.channel Repair) else f s) +ℚ (if b then g (set s t.channel Repair) else g s) ≡ c) [ true ↦ both _ | false ↦ both _ ]
+  tested-both Deep s = elim t.full as (λ b. (if b then f (set s t.channel t.found) else f s) +ℚ (if b then g (set s t.channel t.found) else g s) ≡ c) [ true ↦ both _ | false ↦ both _ ]
   tested-both Repair s = both s
+  tested-both Found s = both s
 
 -- two modes that pay nothing at passages
 module _ (us : List Subsystem) (m n : Mode) (calm_m : (b s : FullState) → passage_of us m b s ≡ whole 0) (calm_n : (b s : FullState) → passage_of us n b s ≡ whole 0)

@@ -2,7 +2,7 @@
 use Rattle.std.specs.Prelude.{◌≡◌, ◌≢◌, ℕ, suc, ◌≤◌, List, All}
 use Rattle.sil_fraction.specs.Fraction.{Fraction, ◌+ℚ◌, ◌≤ℚ◌, whole, ratio}
 use Rattle.sil_model.specs.State.{FullState}
-use Rattle.sil_model.specs.Events.{Event, step_of, share_of, in_repair_of, rate_at}
+use Rattle.sil_model.specs.Events.{Event, Return, step_of, share_of, in_repair_of, rate_at}
 use Rattle.sil_model.specs.Events.Kind.{Returns}
 use Rattle.sil_model.specs.Series.{Values, beat_of}
 use Rattle.sil_model.specs.Calendar.{beats_of}
@@ -25,7 +25,8 @@ pub record UniformisedRateLaw : Type 0 where
 -- the rate at which a channel is repaired goes by how many channels of its subsystem are in repair, and by nothing else of
 -- the state; the share of the crews that it has then is above 0 and at most 1
 pub record ShareLaw : Type 0 where
-  pub by_number : (u : Subsystem) (a : ℕ) (s t : FullState) → in_repair_of a u.vote.n s ≡ in_repair_of a u.vote.n t → rate_at u a Returns s ≡ rate_at u a Returns t
+  pub by_number : (u : Subsystem) (r : Return) (a : ℕ) (s t : FullState) → in_repair_of a u.vote.n s ≡ in_repair_of a u.vote.n t
+      → rate_at u a (Returns r) s ≡ rate_at u a (Returns r) t
   pub some : (u : Subsystem) (n : ℕ) → share_of u n ≢ whole 0
   pub at_most_one : (u : Subsystem) (n : ℕ) → share_of u n ≤ℚ whole 1
 
