@@ -3,13 +3,14 @@ use Rattle.std.proofs.Common.{◌≡◌, ℕ, zero, suc, ◌+◌, ◌≤◌, Boo
 use Rattle.std.specs.Prelude.{All, Option, cond, filter, not, sum_by, if◌then◌else◌, ◌==◌}
 use Rattle.std.proofs.lemmas.List.Elements.{All-head, All-tail}
 use Rattle.std.proofs.lemmas.List.Sums.{sum_by-cons}
-use Rattle.sil_model.specs.LoopValue.{LoopValue, IsValid, IsSubsystemInRange, groups_by_test, single_groups}
+use Rattle.sil_model.specs.LoopValue.{LoopValue, IsValid, IsSubsystemInRange, groups_by_test, single_groups, whole_group}
 use Rattle.sil_model.specs.Calendar.{ChannelTest, is_empty, is_tested, tests_of, tests_from, tests_at, test_hours_of, phases_of, upto}
 use Rattle.sil_model.specs.Sizes.{channel_tests_of}
 use Rattle.sil_model.specs.Budget.{tested_among, tested_from, group_tests_in, group_tests_of}
 use Rattle.sil_model.specs.declared.parts.Group.{Group}
 use Rattle.sil_model.specs.declared.parts.Subsystem.{Subsystem}
 use Rattle.sil_model.specs.declared.parts.TestPlan.{TestPlan}
+use Rattle.sil_model.specs.declared.parts.Version.{Version}
 use Rattle.schedule_laws.proofs.PhasesOfLoop.{length-phases_of}
 
 -- ---- tests of an hour
@@ -22,22 +23,22 @@ module _ (mission t : ℕ) where
     no_more true g x gs ts h = omega (arith, h)
     no_more false g x gs ts h = h
 
-    tested_singles : (s n i c : ℕ) → tested_among mission t (Some p) (single_groups s i n) ≤ length (tests_of mission t u n i c)
-    tested_singles s zero i c = omega arith
-    tested_singles s (suc n) i c = rw has (no_more (is_tested mission t p i) _ _ _ _ (tested_singles s n (suc i) (suc c)))
+    tested_singles : (v : Version) (s n i c : ℕ) → tested_among mission t (Some p) (single_groups v s i n) ≤ length (tests_of mission t u n i c)
+    tested_singles v s zero i c = omega arith
+    tested_singles v s (suc n) i c = rw has (no_more (is_tested mission t p i) _ _ _ _ (tested_singles v s n (suc i) (suc c)))
 
     tested_whole : (g : Group) (n c : ℕ) → g.first_channel ≡ 0 → 1 ≤ n → tested_among mission t (Some p) (g ∷ []) ≤ length (tests_of mission t u n 0 c)
     tested_whole g zero c e h = absurd (omega arith)
     tested_whole g (suc n) c e h = rw (has, e) (no_more (is_tested mission t p 0) _ _ [] _ (omega arith))
 
-    tested_planned : (s c : ℕ) → 1 ≤ u.vote.n → tested_among mission t (Some p) (groups_by_test s u.vote.n (Some p)) ≤ length (tests_of mission t u u.vote.n 0 c)
+    tested_planned : (s c : ℕ) → 1 ≤ u.vote.n → tested_among mission t (Some p) (groups_by_test u.version s u.vote.n (Some p)) ≤ length (tests_of mission t u u.vote.n 0 c)
     tested_planned s c h =
-        let whole : Group = record { subsystem = s; first_channel = 0; size = u.vote.n } in
-        elim (p.stagger == 0) as (λ b. tested_among mission t (Some p) (if b then whole ∷ [] else single_groups s 0 u.vote.n) ≤ length (tests_of mission t u u.vote.n 0 c))
-        [ true ↦ tested_whole whole u.vote.n c refl h | false ↦ tested_singles s u.vote.n 0 c ]
+        let whole : Group = whole_group u.version s u.vote.n in
+        elim (p.stagger == 0) as (λ b. tested_among mission t (Some p) (if b then whole ∷ [] else single_groups u.version s 0 u.vote.n) ≤ length (tests_of mission t u u.vote.n 0 c))
+        [ true ↦ tested_whole whole u.vote.n c refl h | false ↦ tested_singles u.version s u.vote.n 0 c ]
 
   tested_by : (s c : ℕ) (u : Subsystem) (o : Option TestPlan) → u.test ≡ o → 1 ≤ u.vote.n
-      → tested_among mission t o (groups_by_test s u.vote.n o) ≤ length (tests_of mission t u u.vote.n 0 c)
+      → tested_among mission t o (groups_by_test u.version s u.vote.n o) ≤ length (tests_of mission t u u.vote.n 0 c)
   tested_by s c u None e h = omega arith
   tested_by s c u (Some p) e h = tested_planned u p e s c h
 

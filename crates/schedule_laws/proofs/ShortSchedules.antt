@@ -4,7 +4,7 @@ use Rattle.std.specs.Prelude.{All, Option, Some, None, if◌then◌else◌}
 use Rattle.std.proofs.lemmas.List.Elements.{All-head, All-tail}
 use Rattle.sil_fraction.specs.Fraction.{Fraction, ◌≤ℚ◌, whole, ratio}
 use Rattle.sil_fraction.proofs.Laws.{ratio-le-ratio, whole-ratio}
-use Rattle.sil_model.specs.Calendar.{ChannelTest, Phase, phases_of, tests_at, beats_of, is_tested, is_full, test_of, tests_of, tests_from}
+use Rattle.sil_model.specs.Calendar.{ChannelTest, Phase, phases_of, tests_at, beats_of, found_in, is_tested, is_full, test_of, tests_of, tests_from}
 use Rattle.sil_model.specs.Pay.{Item, beats_items, items_from, items_until, schedule_of, schedule_of_phase, schedule_until}
 use Rattle.sil_model.specs.Pay.Item.{Beat, Tests}
 use Rattle.sil_model.specs.LoopValue.{LoopValue, IsValid, IsSubsystemInRange}
@@ -30,7 +30,7 @@ module _ (mission t : ℕ) where
   channel_likely u r None i c = no_chances
   channel_likely u r (Some p) i c =
       let fault : Fraction = ratio u.figures.restart_fault 1_000_000 in
-      let test : ChannelTest = record { channel = c; full = is_full mission t p i; fault = fault } in
+      let test : ChannelTest = record { channel = c; full = is_full mission t p i; fault = fault; found = found_in u.version } in
       elim (is_tested mission t p i) as (λ b. AreChances (if b then test ∷ [] else []))
       [ true ↦ one (fault_likely u.figures.restart_fault r.figures.restart_fault) no_chances | false ↦ no_chances ]
 
