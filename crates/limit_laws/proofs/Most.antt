@@ -15,7 +15,7 @@ use Rattle.sil_model.specs.Pay.Item.{Beat, Tests}
 use Rattle.sil_model.specs.Pay.Mode.{Down, Up, Entry, AtEnd, UpAtEnd}
 use Rattle.sil_model.specs.declared.parts.Subsystem.{Subsystem}
 use Rattle.sil_model.specs.declared.parts.Chan.{Chan}
-use Rattle.sil_model.specs.declared.parts.Chan.TheVariants.{Work, Hidden, Deep, Repair}
+use Rattle.sil_model.specs.declared.parts.Chan.TheVariants.{Work, Hidden, Deep, Repair, Found}
 use Rattle.model_laws.specs.Polynomial.{IsLinear}
 use Rattle.model_laws.specs.Hours.{AreChances, IsShort, AreShort}
 use Rattle.model_laws.specs.Hours.AreChances.{none as no_chances, one}
@@ -94,8 +94,9 @@ module _ (t : ChannelTest) (likely : t.fault ≤ℚ whole 1) (f : FullState → 
   tested_small Work s =
       le_trans _ _ _ (add-le-add _ _ _ _ (mul-le-left _ _ _ (small _)) (mul-le-left _ _ _ (small s))) (le_of_same _ _ (shared t.fault c likely))
   tested_small Hidden s = small _
-  tested_small Deep s = elim t.full as (λ b. (if b then f (set s t.channel Repair) else f s) ≤ℚ c) [ true ↦ small _ | false ↦ small _ ]
+  tested_small Deep s = elim t.full as (λ b. (if b then f (set s t.channel t.found) else f s) ≤ℚ c) [ true ↦ small _ | false ↦ small _ ]
   tested_small Repair s = small s
+  tested_small Found s = small s
 
 passage_small : (us : List Subsystem) (m : Mode) (before s : FullState) → passage_of us m before s ≤ℚ most_at_tests m
 unfolding passage_of

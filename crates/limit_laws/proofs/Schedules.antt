@@ -13,7 +13,7 @@ use Rattle.sil_model.specs.Pay.{Item, Mode, pay_of, payoff_of, passage_of, testi
 use Rattle.sil_model.specs.Pay.Item.{Beat, Tests}
 use Rattle.sil_model.specs.declared.parts.Subsystem.{Subsystem}
 use Rattle.sil_model.specs.declared.parts.Chan.{Chan}
-use Rattle.sil_model.specs.declared.parts.Chan.TheVariants.{Work, Hidden, Deep, Repair}
+use Rattle.sil_model.specs.declared.parts.Chan.TheVariants.{Work, Hidden, Deep, Repair, Found}
 use Rattle.model_laws.specs.Hours.{AreChances, IsShort, AreShort}
 use Rattle.model_laws.specs.Hours.AreChances.{none as no_chances, one}
 use Rattle.model_laws.specs.Hours.AreShort.{none, beat, tests}
@@ -47,9 +47,10 @@ module _ (t : ChannelTest) (likely : t.fault ≤ℚ whole 1) (f g : FullState �
       rw shared at (near_summed _ _ _ _ _ _ (near_scaled t.fault d _ _ (near (set s t.channel Hidden))) (near_scaled (whole 1 -ℚ t.fault) d _ _ (near s)))
   tested_near Hidden s = near _
   tested_near Deep s =
-      elim t.full as (λ b. IsNear d (if b then f (set s t.channel Repair) else f s)
-      (if b then g (set s t.channel Repair) else g s)) [ true ↦ near _ | false ↦ near _ ]
+      elim t.full as (λ b. IsNear d (if b then f (set s t.channel t.found) else f s)
+      (if b then g (set s t.channel t.found) else g s)) [ true ↦ near _ | false ↦ near _ ]
   tested_near Repair s = near s
+  tested_near Found s = near s
 
 -- and before the tests of an hour
 module _ (us : List Subsystem) (m : Mode) (f g : FullState → Fraction) (d : Fraction) (near : (x : FullState) → IsNear d (f x) (g x)) (before : FullState) where
