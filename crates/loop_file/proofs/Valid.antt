@@ -8,9 +8,10 @@ use Rattle.loop_file.proofs.ShownNames.{or_false}
 use Rattle.std.specs.List.{list_any}
 use Rattle.std.specs.Option.{IfSome}
 use Rattle.std.specs.Str.{bytes_eq}
-use Rattle.sil_model.specs.LoopValue.{IsValid, IsWithin, IsName, IsVoteInRange, IsFiguresInRange, IsPlanInRange, IsSubsystemInRange}
+use Rattle.sil_model.specs.LoopValue.{LoopValue, IsValid, IsWithin, IsName, IsVoteInRange, IsFiguresInRange, IsPlanInRange, IsSubsystemInRange, version_of}
 use Rattle.sil_model.specs.declared.parts.Subsystem.{Subsystem}
 use Rattle.sil_model.specs.declared.parts.TestPlan.{TestPlan}
+use Rattle.sil_model.specs.declared.parts.Version.TheVariants.{First}
 use Rattle.sil_model.specs.declared.parts.Vote.{Vote}
 use Rattle.sil_text.proofs.Names.{decides_name}
 use Rattle.sil_text.specs.Name.{is_name_text}
@@ -21,7 +22,7 @@ use Rattle.loop_file.specs.declared.fault.Flaw.TheVariants.{BadText, BadVote, Sa
 use Rattle.file_fault.specs.declared.FileFault.{FileFault}
 use Rattle.loop_file.specs.declared.given.Given.{Given}
 use Rattle.loop_file.specs.declared.place.Place.TheVariants.{Top, OfSubsystem}
-use Rattle.loop_file.specs.LoopFile.{checks_of, loop_of, version_check, unknown_checks, top_keys, subsystem_keys, key_check, mission_in, order_in, types_checks, subsystems_checks, type_entry_checks, items_len, items_checks, items_or_none, tables_of, given_of, no_given, given_by, types_of, type_in, over, figures_of, plan_of, plan_in, test_in, value_or, unlike, new_name_in, name_at, subsystem_of, subsystem_checks, subsystem_entry_checks, entry_of, names_before, tables_in, vote_at, no_vote}
+use Rattle.loop_file.specs.LoopFile.{IsLoopOf, checks_of, loop_of, version_check, unknown_checks, top_keys, subsystem_keys, key_check, mission_in, order_in, types_checks, subsystems_checks, type_entry_checks, items_len, items_checks, items_or_none, tables_of, given_of, no_given, given_by, types_of, type_in, over, figures_of, plan_of, plan_in, test_in, value_or, unlike, new_name_in, name_at, subsystem_of, subsystem_checks, subsystem_entry_checks, entry_of, names_before, tables_in, vote_at, no_vote}
 use Rattle.loop_file.specs.Paths.{check_at}
 use Rattle.loop_file.specs.Readings.{of_kind, required, name_in, vote_of, rate_in, thousandths_in, millionths_in, whole_in}
 use Rattle.loop_file.specs.Walk.{Check, checks_below, Pass}
@@ -186,6 +187,9 @@ figures_range g r = record {
   coverage = unwrap_range (λ n. n ≤ 10 ^ 3) g.coverage 1000 (lit≤ tt) r.coverage;
   restart_fault = unwrap_range (λ n. n ≤ 10 ^ 6) g.restart_fault 0 (lit≤ tt) r.restart_fault;
   repair = unwrap_range (IsWithin 1 8760) g.repair 1 (record { above = lit≤ tt; below = lit≤ tt }) r.repair;
+  mrt = unwrap_range (IsWithin 1 8760) g.repair 1 (record { above = lit≤ tt; below = lit≤ tt }) r.repair;
+  crews = refl;
+  safe = lit≤ tt;
 }
 
 -- tests
@@ -214,7 +218,20 @@ subsystem_range ts t name = record {
   vote = vote_or (vote_at (get_member (codes "vote") t)) (vote_found (get_member (codes "vote") t));
   figures = figures_range _ (given_range true _ t (type_range ts (get_member (codes "type") t)));
   test = test_range (get_member (codes "test") t);
+  first = λ e. record { mrt = refl; crews = refl; safe = refl; class = refl };
 }
+
+-- every loop of a file is of the first version
+first_of_entries : (find : List ℕ → Result Given Flaw) (us : List Members) → version_of (map (subsystem_of find) us) ≡ First
+first_of_entries find [] = refl
+first_of_entries find (u ∷ us) = refl
+
+pub first_of_file : (t : Members) → version_of (loop_of t).subsystems ≡ First
+unfolding loop_of
+first_of_file t = first_of_entries (types_of (tables_in (get_member (codes "type") t))) (tables_in (get_member (codes "subsystem") t))
+
+pub first_of_bytes : (bytes : List ℕ) (l : LoopValue) → IsLoopOf bytes l → version_of l.subsystems ≡ First
+first_of_bytes bytes l is = rw is.value (first_of_file is.tree)
 
 -- the parts of the walk that a loop's values rest on
 split_walk : (v : Check) (k : List Check) (m o : Check) (a b c d : List Check) → Pass (v ∷ (k ++ (m ∷ o ∷ (a ++ (b ++ (c ++ d)))))) → Pass b × Pass d
@@ -288,4 +305,7 @@ valid_loop t p =
           let v : i < length us = omega arith in
           rw (get_or-map f us i no_members d v, get_or-map f us j no_members d w)
           (λ same. not_among (name_at (entry_of us j)) (names_before us j) i (named j w).new (length_before us i j less w) (earlier_name us i j less w ∙ same));
+      versions = λ k d h.
+          let w : k < length us = rw (length-map us f) at h in
+          rw (get_or-map f us k no_members d w) (sym (first_of_entries (types_of ts) us));
     }

@@ -5,10 +5,12 @@ use Rattle.std.specs.Str.{bytes_eq}
 use Rattle.toml.specs.Data.{Data, Items, no_items, item, Members, no_members, member, get_member, as_integer, as_str, as_array, as_table}
 use Rattle.sil_model.specs.LoopValue.{LoopValue}
 use Rattle.sil_model.specs.declared.parts.ChannelFigures.{ChannelFigures}
+use Rattle.sil_model.specs.declared.parts.Class.TheVariants.{B}
 use Rattle.sil_model.specs.declared.parts.InRepair.{InRepair}
 use Rattle.sil_model.specs.declared.parts.InRepair.TheVariants.{Lost}
 use Rattle.sil_model.specs.declared.parts.Subsystem.{Subsystem}
 use Rattle.sil_model.specs.declared.parts.TestPlan.{TestPlan}
+use Rattle.sil_model.specs.declared.parts.Version.TheVariants.{First}
 use Rattle.sil_model.specs.declared.parts.Vote.{Vote}
 use Rattle.file_fault.specs.declared.FileFault.{FileFault}
 use Rattle.file_fault.specs.declared.FileFault.TheVariants.{NotToml, UnknownKey, Missing, WrongKind, OutOfRange, BadVersion}
@@ -213,7 +215,7 @@ given_of needed given t = record {
   in_repair = value_or None (in_repair_over given (get_member (codes "in_repair") t));
 }
 
--- the defaults stand last
+-- the defaults stand last; what a file of the first version does not have is that of loops of this version
 abbrev pub figures_of : Given → ChannelFigures
 figures_of g = record {
   du = unwrap_or g.du 0;
@@ -223,6 +225,10 @@ figures_of g = record {
   coverage = unwrap_or g.coverage 1000;
   restart_fault = unwrap_or g.restart_fault 0;
   repair = unwrap_or g.repair 1;
+  mrt = unwrap_or g.repair 1;
+  crews = 8;
+  safe = 0;
+  class = B;
 }
 
 -- Types.
@@ -314,6 +320,7 @@ module _ (find : List ℕ → Result Given Flaw) where
   subsystem_of t =
       let given = given_of true (type_of t) t in
       record {
+        version = First;
         name = name_at t;
         vote = value_or no_vote (vote_at (get_member (codes "vote") t));
         figures = figures_of given;

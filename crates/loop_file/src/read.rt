@@ -3,6 +3,8 @@
 ghost use Rattle.std.specs.Prelude.{codes, ◌≡◌, ◌⊎◌, map, OnOk, IfOk, IfErr, Some, None};
 ghost use Rattle.toml.specs.Data.{Members, get_member};
 ghost use Rattle.toml.specs.View.{table_view};
+ghost use Rattle.sil_model.specs.LoopValue.{version_of};
+ghost use Rattle.sil_model.specs.declared.parts.Version.TheVariants.{First};
 ghost use Rattle.loop_file.specs.Walk.{Pass, Walks, IsMemory, IsRefusal};
 ghost use Rattle.loop_file.specs.Tree.{tree_of};
 ghost use Rattle.loop_file.specs.LoopFile.{version_check, types_checks, subsystems_checks, tables_in, checks_of, loop_of, HasFault, IsLoopOf};
@@ -25,6 +27,7 @@ const KEYS: [&str; 5] = ["version", "mission", "order", "type", "subsystem"];
 /// Reads a loop file. Where it is refused, the answer is the first fault of the walk, with its path.
 pub fn read_loop(alloc: Global, bytes: &[u8]) -> Result<Loop, FileFault>
     ensures reads { IfOk result (IsLoopOf bytes.now) }
+    ensures version { IfOk result (λ l. version_of l.subsystems ≡ First) }
     ensures refuses { IfErr result (λ e. IsMemory e ⊎ HasFault bytes.now e) }
 {
     let table = parse(alloc, bytes)?;

@@ -18,7 +18,7 @@ use crate::types::Types;
 use crate::values;
 use file_fault::FileFault;
 use indexmap::IndexSet;
-use sil_model::{ChannelFigures, InRepair, Subsystem, TestPlan, Text};
+use sil_model::{ChannelFigures, Class, InRepair, Subsystem, TestPlan, Text, Version};
 use std::alloc::Global;
 use toml::Table;
 
@@ -62,6 +62,7 @@ pub fn read_subsystem<'a>(
     let given = read_given(&entry, &type_given, true)?;
     let test = read_test(&entry, i)?;
     Ok(Subsystem {
+        version: Version::First,
         name: Text::from_str(alloc, name).map_err(FileFault::Memory)?,
         vote,
         figures: figures(&given),
@@ -99,10 +100,11 @@ fn read_test(entry: &Entry, i: usize) -> Result<Option<TestPlan>, FileFault>
     Ok(Some(plan))
 }
 
-/// The figures, with the defaults of the keys that may be left out.
+/// The figures, with the defaults of the keys that may be left out, and with what loops of the first version have.
 fn figures(given: &Given) -> ChannelFigures
     ensures { result ≡ figures_of given.now }
 {
+    let repair = given.repair.unwrap_or(1);
     ChannelFigures {
         du: given.du.unwrap_or(0),
         dd: given.dd.unwrap_or(0),
@@ -110,6 +112,10 @@ fn figures(given: &Given) -> ChannelFigures
         beta_d: given.beta_d.unwrap_or(0),
         coverage: given.coverage.unwrap_or(1_000),
         restart_fault: given.restart_fault.unwrap_or(0),
-        repair: given.repair.unwrap_or(1),
+        repair,
+        mrt: repair,
+        crews: 8,
+        safe: 0,
+        class: Class::B,
     }
 }

@@ -7,6 +7,7 @@ use Rattle.sil_model.specs.declared.parts.InRepair.{InRepair}
 use Rattle.sil_model.specs.declared.parts.InRepair.TheVariants.{Lost}
 use Rattle.sil_model.specs.declared.parts.Subsystem.{Subsystem}
 use Rattle.sil_model.specs.declared.parts.TestPlan.{TestPlan}
+use Rattle.sil_model.specs.declared.parts.Version.TheVariants.{First}
 use Rattle.sil_model.specs.declared.parts.Vote.{Vote}
 use Rattle.loop_file.specs.declared.fault.Flaw.{Flaw}
 use Rattle.loop_file.specs.declared.fault.Flaw.TheVariants.{SameName}
@@ -29,7 +30,7 @@ named earlier (Ok x) name h = by (list_any (bytes_eq x) earlier) h
 same_subsystem : (find : List ℕ → Result Given Flaw) (t : Members) (name : List ℕ) (vote : Vote) (given : Given) (figures : ChannelFigures) (in_repair : InRepair) (test : Option TestPlan)
     → name ≡ name_at t → vote ≡ value_or no_vote (vote_at (get_member (codes "vote") t)) → figures ≡ figures_of given → in_repair ≡ unwrap_or given.in_repair Lost
     → test ≡ test_in (get_member (codes "test") t) → given ≡ given_of true (type_of find t) t
-    → (let u : Subsystem = record { name = name; vote = vote; figures = figures; in_repair = in_repair; test = test } in u ≡ subsystem_of find t)
+    → (let u : Subsystem = record { version = First; name = name; vote = vote; figures = figures; in_repair = in_repair; test = test } in u ≡ subsystem_of find t)
 same_subsystem find t name vote given figures in_repair test a b c d e f = rw (a, b, c, d, e, f) refl
 
 abbrev find_of : goal.After-unwrap_or → List ℕ → Result Given Flaw
