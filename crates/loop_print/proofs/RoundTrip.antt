@@ -4,10 +4,13 @@ use Rattle.std.proofs.lemmas.List.{get_or-map, length-map, length-take, get_or-t
 use Rattle.std.proofs.lemmas.Slice.Eq.{bytes_eq-Decides}
 use Rattle.std.specs.List.{list_any}
 use Rattle.std.specs.Str.{bytes_eq, is_utf8}
-use Rattle.sil_model.specs.LoopValue.{LoopValue, IsValid, IsWithin, IsName, IsVoteInRange, IsFiguresInRange, IsPlanInRange, IsSubsystemInRange}
+use Rattle.sil_model.specs.LoopValue.{LoopValue, IsValid, IsWithin, IsName, IsVoteInRange, IsFiguresInRange, IsPlanInRange, IsSubsystemInRange, version_of}
+use Rattle.sil_model.specs.declared.parts.ChannelFigures.{ChannelFigures}
+use Rattle.sil_model.specs.declared.parts.Class.{Class}
 use Rattle.sil_model.specs.declared.parts.InRepair.TheVariants.{Lost}
 use Rattle.sil_model.specs.declared.parts.Subsystem.{Subsystem}
 use Rattle.sil_model.specs.declared.parts.TestPlan.{TestPlan}
+use Rattle.sil_model.specs.declared.parts.Version.TheVariants.{First}
 use Rattle.sil_model.specs.declared.parts.Vote.{Vote}
 use Rattle.sil_text.specs.Name.{is_name_text}
 use Rattle.sil_text.proofs.Names.{decides_name}
@@ -157,10 +160,27 @@ not_any name (n ∷ ns) h = rw (differs (bytes_eq name n) refl) (not_any name ns
 
 -- Subsystems.
 
-same_subsystem : (u : Subsystem) (name : List ℕ) (vote : Result Vote Flaw) (g : Given) (test : Option TestPlan) → name ≡ u.name → vote ≡ Ok u.vote
+-- what the figures of the first version do not choose
+same_figures : (f : ChannelFigures) (mrt crews safe : ℕ) (class : Class) → mrt ≡ f.mrt → crews ≡ f.crews → safe ≡ f.safe → class ≡ f.class
+    → (let g : ChannelFigures = record {
+      du = f.du;
+      dd = f.dd;
+      beta = f.beta;
+      beta_d = f.beta_d;
+      coverage = f.coverage;
+      restart_fault = f.restart_fault;
+      repair = f.repair;
+      mrt = mrt;
+      crews = crews;
+      safe = safe;
+      class = class;
+    } in g ≡ f)
+same_figures f mrt crews safe class a b c d = rw (a, b, c, d) refl
+
+same_subsystem : (u : Subsystem) (name : List ℕ) (vote : Result Vote Flaw) (g : Given) (test : Option TestPlan) → First ≡ u.version → name ≡ u.name → vote ≡ Ok u.vote
     → figures_of g ≡ u.figures → g.in_repair ≡ Some u.in_repair → test ≡ u.test
-    → (let w : Subsystem = record { name = name; vote = value_or no_vote vote; figures = figures_of g; in_repair = unwrap_or g.in_repair Lost; test = test } in w ≡ u)
-same_subsystem u name vote g test a b c d e = rw (a, b, c, d, e) refl
+    → (let w : Subsystem = record { version = First; name = name; vote = value_or no_vote vote; figures = figures_of g; in_repair = unwrap_or g.in_repair Lost; test = test } in w ≡ u)
+same_subsystem u name vote g test v a b c d e = rw (v, a, b, c, d, e) refl
 
 vote_kept : (u : Subsystem) → IsVoteInRange u.vote → vote_at (get_member (codes "vote") (subsystem_table u)) ≡ Ok u.vote
 unfolding subsystem_table
@@ -170,13 +190,14 @@ test_kept : (u : Subsystem) → ((p : TestPlan) → u.test ≡ Some p → IsPlan
 unfolding subsystem_table
 test_kept u h = ap test_in (at_test u.test u.vote) ∙ test_read u.test h
 
-subsystem_read : (find : List ℕ → Result Given Flaw) (u : Subsystem) → IsSubsystemInRange u → subsystem_of find (subsystem_table u) ≡ u
-subsystem_read find u r =
+subsystem_read : (find : List ℕ → Result Given Flaw) (u : Subsystem) → IsSubsystemInRange u → u.version ≡ First → subsystem_of find (subsystem_table u) ≡ u
+subsystem_read find u r v =
     let t = subsystem_table u in
     let given = type_of find t in
     let g = given_read given u t (are_read given u r.figures) in
+    let o = r.first v in
     same_subsystem u (name_at t) (vote_at (get_member (codes "vote") t)) (given_of true given t) (test_in (get_member (codes "test") t))
-    (name_kept u r.name) (vote_kept u r.vote) (ap figures_of g) (ap (λ x. x.in_repair) g) (test_kept u r.test)
+    (sym v) (name_kept u r.name) (vote_kept u r.vote) (ap figures_of g ∙ same_figures u.figures _ _ _ _ (sym o.mrt) (sym o.crews) (sym o.safe) (sym o.class)) (ap (λ x. x.in_repair) g) (test_kept u r.test)
 
 subsystem_passes : (find : List ℕ → Result Given Flaw) (i : ℕ) (earlier : List (List ℕ)) (u : Subsystem) → IsSubsystemInRange u → list_any (bytes_eq u.name) earlier ≡ false
     → Pass (subsystem_checks find i earlier (subsystem_table u))
@@ -214,10 +235,10 @@ subsystems_pass us few =
     pass_cons _ _ (in_range 1 6 (items_len (tables us)) None (Some (OutOfRange (path_of Top (codes "subsystem")))) (rw (items_len-tables us) few.above) (rw (items_len-tables us) few.below))
     (record { none = all_entries (codes "subsystem") 0 us })
 
-all_read : (find : List ℕ → Result Given Flaw) (us : List Subsystem) → All IsSubsystemInRange us → us ≡ map (subsystem_of find) (map subsystem_table us)
-all_read find [] h = refl
-all_read find (u ∷ us) h =
-    ap (λ w. w ∷ us) (sym (subsystem_read find u (h 0 u (omega arith)))) ∙ ap (λ ws. subsystem_of find (subsystem_table u) ∷ ws) (all_read find us (λ k d w. h (suc k) d (omega arith)))
+all_read : (find : List ℕ → Result Given Flaw) (us : List Subsystem) → All IsSubsystemInRange us → All (λ u. u.version ≡ First) us → us ≡ map (subsystem_of find) (map subsystem_table us)
+all_read find [] h v = refl
+all_read find (u ∷ us) h v =
+    ap (λ w. w ∷ us) (sym (subsystem_read find u (h 0 u (omega arith)) (v 0 u (omega arith)))) ∙ ap (λ ws. subsystem_of find (subsystem_table u) ∷ ws) (all_read find us (λ k d w. h (suc k) d (omega arith)) (λ k d w. v (suc k) d (omega arith)))
 
 below_pass : (f : ℕ → List Check) (n : ℕ) → ((k : ℕ) → k < n → Pass (f k)) → Pass (checks_below f n)
 below_pass f zero h = pass_none
@@ -275,11 +296,11 @@ canonical_passes l v =
     (pass_append _ _ (subsystems_pass l.subsystems v.few)
     (entries_pass l.subsystems (tables_of (tables l.subsystems)) v.few v.subsystems v.names (tables_of-tables l.subsystems))))))
 
-canonical_read : (l : LoopValue) → IsValid l → l ≡ loop_of (canonical_of l)
+canonical_read : (l : LoopValue) → IsValid l → version_of l.subsystems ≡ First → l ≡ loop_of (canonical_of l)
 unfolding canonical_of
-canonical_read l v =
+canonical_read l v first =
     same_loop (canonical_of l) l.mission l.order l.subsystems (sym (ap (value_or 1) (whole_read 1 350_400 l.mission v.mission))) (sym (ap (option_or 28) (optional_read 16 40 l.order v.order)))
-    (all_read (types_of []) l.subsystems v.subsystems ∙ ap (map (subsystem_of (types_of []))) (sym (tables_of-tables l.subsystems)))
+    (all_read (types_of []) l.subsystems v.subsystems (λ k d w. v.versions k d w ∙ first) ∙ ap (map (subsystem_of (types_of []))) (sym (tables_of-tables l.subsystems)))
 
 -- The nesting, and the dates.
 
@@ -327,9 +348,9 @@ canonical_dates l = rw (tables_dates l.subsystems) refl
 pub canonical_tree : (l : LoopValue) (bytes : List ℕ) → is_utf8 bytes ≡ true → (members_depth (canonical_of l) ≤ 80 → parse_document bytes ≡ Some (canonical_of l)) → tree_of bytes ≡ Some (canonical_of l)
 canonical_tree l bytes utf8 parsed = rw utf8 (parsed (omega (arith, canonical_depth l)))
 
--- A text whose tree is the canonical table of a valid loop is a loop file of the loop.
-pub canonical_is_loop : (l : LoopValue) (bytes : List ℕ) → IsValid l → tree_of bytes ≡ Some (canonical_of l) → IsLoopOf bytes l
-canonical_is_loop l bytes v toml = record { tree = canonical_of l; toml = toml; pass = (canonical_passes l v).none; value = canonical_read l v }
+-- A text whose tree is the canonical table of a valid loop of the first version is a loop file of the loop.
+pub canonical_is_loop : (l : LoopValue) (bytes : List ℕ) → IsValid l → version_of l.subsystems ≡ First → tree_of bytes ≡ Some (canonical_of l) → IsLoopOf bytes l
+canonical_is_loop l bytes v first toml = record { tree = canonical_of l; toml = toml; pass = (canonical_passes l v).none; value = canonical_read l v first }
 
 pub round_trip : RoundTrip
-round_trip = record { no_fault = λ l v. (canonical_passes l v).none; same_loop = λ l v. sym (canonical_read l v) }
+round_trip = record { no_fault = λ l v first. (canonical_passes l v).none; same_loop = λ l v first. sym (canonical_read l v first) }

@@ -2,7 +2,8 @@
 
 ghost use Rattle.std.specs.Prelude.{◌≡◌, ◌≤◌, pos, map, length, Some, OnOk, IfOk};
 ghost use Rattle.toml.specs.View.{view, table_view};
-ghost use Rattle.sil_model.specs.LoopValue.{IsValid};
+ghost use Rattle.sil_model.specs.LoopValue.{IsValid, version_of};
+ghost use Rattle.sil_model.specs.declared.parts.Version.TheVariants.{First};
 ghost use Rattle.sil_model.specs.Sizes.{most_file_bytes};
 ghost use Rattle.loop_file.specs.Tree.{tree_of};
 ghost use Rattle.loop_file.specs.LoopFile.{IsLoopOf};
@@ -17,8 +18,10 @@ use toml::ser::Error;
 use toml::{Table, Value};
 
 /// Prints the canonical loop file of a loop, which has every key and no types, and no more bytes than a loop file may have.
-/// Reading it gives the loop back. The only refusal is `out of memory`.
+/// Reading it gives the loop back, so the loop is of the first version, as every loop of a file is. The only refusal is
+/// `out of memory`.
 pub fn print_loop(alloc: Global, l: &Loop) -> Result<Vec<u8>, AllocError>
+    requires version { version_of l.now.subsystems ≡ First }
     ensures bytes { IfOk result (λ text. text.items ≡ canonical_text l.now) }
     ensures short { IfOk result (λ text. length text.items ≤ most_file_bytes) }
     ensures canonical { IfOk result (λ text. tree_of text.items ≡ Some (canonical_of l.now)) }
@@ -32,7 +35,7 @@ pub fn print_loop(alloc: Global, l: &Loop) -> Result<Vec<u8>, AllocError>
     }
 }
 
-/// What a canonical table means, for every valid loop: it has no fault, and it is the file of that loop.
+/// What a canonical table means, for every valid loop of the first version: it has no fault, and it is the file of that loop.
 pub fn round_trip_law()
     ensures { RoundTrip }
 {}

@@ -19,7 +19,7 @@ returns-in-Ok c =
     let text : string_bytes c.in-Ok.text ≡ canonical_text c.args.l.now = canonical_bytes c.args.l.now _ valid.few.above (rw same at c.in-Ok.ensures.text) in
     let short = subst (λ xs. length xs ≤ most_file_bytes) (sym text) (length-canonical c.args.l.now valid) in
     let tree = canonical_tree c.args.l.now (string_bytes c.in-Ok.text) (is_utf8-from_IsUtf8 _ (IsUtf8-string_bytes c.in-Ok.text)) (rw same at c.in-Ok.ensures.reads_back) in
-    rw bytes (record { bytes = text; short = short; canonical = tree; reads_back = canonical_is_loop c.args.l.now (string_bytes c.in-Ok.text) valid tree })
+    rw bytes (record { bytes = text; short = short; canonical = tree; reads_back = canonical_is_loop c.args.l.now (string_bytes c.in-Ok.text) valid c.requires.version tree })
 
 pub unreachable-requires : goal.unreachable-requires
 unreachable-requires c =
