@@ -6,8 +6,9 @@ use Rattle.std.specs.Prelude.{AllPairs, if◌then◌else◌}
 use Rattle.std.proofs.lemmas.List.Elements.{All-nil, All-cons, All-weaker}
 use Rattle.std.proofs.lemmas.List.Kept.{AllPairs-cons}
 use Rattle.std.proofs.lemmas.Bool.{and_parts, leb-true}
-use Rattle.sil_model.specs.LoopValue.{IsValid, IsWithin, IsName, IsVoteInRange, IsFiguresInRange, IsPlanInRange, IsSubsystemInRange}
+use Rattle.sil_model.specs.LoopValue.{IsValid, IsWithin, IsName, IsVoteInRange, IsFiguresInRange, IsPlanInRange, IsSubsystemInRange, version_of}
 use Rattle.sil_model.specs.declared.parts.Subsystem.{Subsystem}
+use Rattle.sil_model.specs.declared.parts.Version.TheVariants.{First}
 use Rattle.sil_model.specs.declared.parts.Vote.{Vote}
 use Rattle.loop_gen.specs.Drawn.{state_after, draw, sensors_vote, figures_of, plan_of, subsystem_of, repair_of, sensors_of, logic_of, valves_of, drawn_of}
 use Rattle.loop_gen.proofs.Step.{answer-below}
@@ -41,6 +42,9 @@ module _ (repair : ℕ) (hours : IsWithin 1 8760 repair) where
     coverage = omega arith;
     restart_fault = omega (arith, draw-below x 5 6 (lit< tt));
     repair = hours;
+    mrt = hours;
+    crews = refl;
+    safe = lit≤ tt;
   }
 
   subsystem_in_range : (name : List ℕ) (vote : Vote) (x : ℕ) → IsName name → IsVoteInRange vote → IsSubsystemInRange (subsystem_of name vote repair x)
@@ -49,6 +53,7 @@ module _ (repair : ℕ) (hours : IsWithin 1 8760 repair) where
     vote = v;
     figures = figures_in_range x;
     test = λ p e. let same : plan_of (draw x 6 3) ≡ p = cc in subst IsPlanInRange same (plan_in_range (draw x 6 3) (draw-below x 6 3 (lit< tt)));
+    first = λ e. record { mrt = refl; crews = refl; safe = refl; class = refl };
   }
 
 printable_name : (name : List ℕ) → IsWithin 1 32 (length name) → list_all (λ c. nat_le 32 c && nat_le c 126) name ≡ true → IsName name
@@ -70,6 +75,14 @@ module _ (a b c : Subsystem) (seven : length a.name ≡ 7) (five : length b.name
       AllPairs-cons R a (b ∷ c ∷ []) (All-cons (R a) b (c ∷ []) ab (All-cons (R a) c [] ac (All-nil (R a))))
       (AllPairs-cons R b (c ∷ []) (All-cons (R b) c [] bc (All-nil (R b)))
       (AllPairs-cons R c [] (All-nil (R c)) (λ i j d h k. absurd (omega arith))))
+
+-- every drawn loop is of the first version
+abbrev IsFirst : Subsystem → Type 0
+IsFirst u = u.version ≡ First
+
+pub drawn_first : (number : ℕ) → version_of (drawn_of number).subsystems ≡ First
+unfolding drawn_of
+drawn_first number = refl
 
 pub drawn_valid : (number : ℕ) → IsValid (drawn_of number)
 unfolding drawn_of
@@ -93,4 +106,5 @@ drawn_valid number =
           (subsystem_in_range (repair_of number) hours _ _ _ (printable_name (codes "valves") (record { above = lit≤ tt; below = lit≤ tt }) refl)
           (record { some = lit≤ tt; suffice = lit≤ tt; few = lit≤ tt })) (All-nil IsSubsystemInRange)));
       names = apart sensors logic valves refl refl refl;
+      versions = All-cons IsFirst sensors (logic ∷ valves ∷ []) refl (All-cons IsFirst logic (valves ∷ []) refl (All-cons IsFirst valves [] refl (All-nil IsFirst)));
     }

@@ -7,10 +7,11 @@ use Rattle.std.proofs.lemmas.Bool.{and_parts, eqb-true, eqb-false, false_from_ne
 use Rattle.std.proofs.lemmas.List.Elements.{All-nil, All-cons, All-head, All-tail}
 use Rattle.std.proofs.lemmas.List.Sums.{sum_by-cons}
 use Rattle.sil_model.specs.LoopValue.{IsWithin, groups_of}
-use Rattle.sil_model.specs.Calendar.{Phase, ceiling, beat_rate_of, beats_of, first_test, is_empty, is_tested, phases_from, phases_of, test_hours_of}
+use Rattle.sil_model.specs.Calendar.{Phase, ceiling, beat_rate_of, beats_of, first_test, is_empty, is_tested, phases_from, phases_of, repair_rate_of, test_hours_of}
 use Rattle.sil_model.specs.Calendar.{tests_at, tests_of, upto}
-use Rattle.sil_model.specs.Sizes.{shares_of, states_of, all_beats_of, channel_tests_of, work_of, first_limit_of, most_tests, most_states, most_beats, most_work}
+use Rattle.sil_model.specs.Sizes.{shares_of, states_of, all_beats_of, channel_tests_of, work_of, first_limit_of, most_tests, most_states_of, most_beats, most_work}
 use Rattle.sil_model.specs.declared.parts.Subsystem.{Subsystem}
+use Rattle.sil_model.specs.declared.parts.Version.TheVariants.{First}
 use Rattle.sil_model.specs.declared.parts.Vote.{Vote}
 use Rattle.test_calendar.specs.Counts.{channels_count}
 use Rattle.test_calendar.proofs.ChannelCounts.{tests_in, channel_tests_as}
@@ -18,7 +19,7 @@ use Rattle.test_calendar.proofs.Rates.{rate_in}
 use Rattle.schedule_laws.proofs.PhasesOfLoop.{phases_of_last, phases_of_fill}
 use Rattle.loop_gen.specs.Drawn.{state_after, draw, sensors_vote, plan_of, subsystem_of, repair_of, sensors_of, logic_of, valves_of, drawn_of}
 use Rattle.loop_gen.specs.Drawn.{IsSmall, IsSuitable}
-use Rattle.loop_gen.proofs.Drawn.{draw-below, drawn_valid}
+use Rattle.loop_gen.proofs.Drawn.{draw-below, drawn_first, drawn_valid}
 
 -- the sensors are two or three
 
@@ -34,8 +35,8 @@ module _ (P : ℕ → Type 0) (two : P 2) (three : P 3) where
 sensors_few : (d : ℕ) → (sensors_vote d).n ≤ 3
 sensors_few d = sensors_cases (λ n. n ≤ 3) (lit≤ tt) (lit≤ tt) d
 
-sensors_shares : (d : ℕ) → shares_of (sensors_vote d).n ≤ 20
-sensors_shares d = sensors_cases (λ n. shares_of n ≤ 20) (lit≤ tt) (lit≤ tt) d
+sensors_shares : (d : ℕ) → shares_of First (sensors_vote d).n ≤ 20
+sensors_shares d = sensors_cases (λ n. shares_of First n ≤ 20) (lit≤ tt) (lit≤ tt) d
 
 sum_by-three : (f : Subsystem → ℕ) (a b c : Subsystem) → sum_by f (a ∷ b ∷ c ∷ []) ≡ f a + f b + f c
 sum_by-three f a b c = omega (arith, sum_by-cons f a (b ∷ c ∷ []), sum_by-cons f b (c ∷ []), sum_by-cons f c [])
@@ -46,11 +47,13 @@ channels_few mission d i zero h = omega arith
 channels_few mission d i (suc n) h = omega (arith, channels_few mission d (suc i) n h)
 
 -- the rate of what happens to one channel, in 10^-12 per hour
-channel_rate : (u : Subsystem) → u.figures.du ≤ 5_000_000 → u.figures.dd ≤ 9_900_000 → 24 ≤ u.figures.repair
-    → u.figures.du + u.figures.dd + ceiling (10 ^ 12) u.figures.repair ≤ 41_685_000_000
-channel_rate u du dd repair =
+channel_rate : (u : Subsystem) → u.figures.du ≤ 5_000_000 → u.figures.dd ≤ 9_900_000 → 24 ≤ u.figures.repair → u.figures.mrt ≡ u.figures.repair
+    → u.figures.du + u.figures.dd + repair_rate_of u ≤ 41_685_000_000
+channel_rate u du dd repair same =
     let fits : 10 ^ 12 + (u.figures.repair - 1) ≤ u.figures.repair * 41_670_000_000 = omega arith in
-    omega (arith, div-le_of_le-mul u.figures.repair fits)
+    let known : ceiling (10 ^ 12) u.figures.repair ≤ 41_670_000_000 = div-le_of_le-mul u.figures.repair fits in
+    let tested : ceiling (10 ^ 12) u.figures.mrt ≤ 41_670_000_000 = rw same known in
+    omega (arith, known, tested)
 
 -- a whole number of years
 abbrev IsYears : ℕ → Type 0
@@ -141,10 +144,10 @@ module _ (number : ℕ) where
   states_few = rw subsystems_are (omega (arith, sensors_shares (draw number 3 3)))
 
   figures_slow : (name : List ℕ) (v : Vote) (x : ℕ)
-      → let u = subsystem_of name v (repair_of number) x in u.figures.du + u.figures.dd + ceiling (10 ^ 12) u.figures.repair ≤ 41_685_000_000
+      → let u = subsystem_of name v (repair_of number) x in u.figures.du + u.figures.dd + repair_rate_of u ≤ 41_685_000_000
   figures_slow name v x =
       channel_rate (subsystem_of name v (repair_of number) x) (omega (arith, draw-below x 1 50 (lit< tt)))
-      (omega (arith, draw-below x 2 100 (lit< tt))) (omega arith)
+      (omega (arith, draw-below x 2 100 (lit< tt))) (omega arith) refl
 
   rate_low : beat_rate_of (drawn_of number).subsystems ≤ 250_110_000_000
   unfolding beat_rate_of
@@ -219,12 +222,12 @@ module _ (number : ℕ) where
   drawn_within order h =
       let l = drawn_of number in
       let tests : channel_tests_of l ≤ most_tests = omega (arith, tests_few) in
-      let states : states_of l.subsystems ≤ most_states = omega (arith, states_few) in
+      let states : states_of l.subsystems ≤ most_states_of l = rw (drawn_first number) (omega (arith, states_few)) in
       let beats : all_beats_of l ≤ most_beats = omega (arith, beats_most) in
       let work : work_of l order ≤ most_work = omega (arith, work_most order) in
       rw (
         le-ltb most_tests (channel_tests_of l) tests,
-        le-ltb most_states (states_of l.subsystems) states,
+        le-ltb (most_states_of l) (states_of l.subsystems) states,
         le-ltb most_beats
             (all_beats_of l) beats,
         le-ltb most_work (work_of l order) work,

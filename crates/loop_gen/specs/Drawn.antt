@@ -3,9 +3,11 @@ use Rattle.std.specs.Prelude.{codes, ℕ, zero, suc, ◌+◌, ◌-◌, ◌*◌, 
 use Rattle.sil_model.specs.LoopValue.{LoopValue, IsValid}
 use Rattle.sil_model.specs.Sizes.{channel_tests_of, states_of, all_beats_of, work_of, first_limit_of}
 use Rattle.sil_model.specs.declared.parts.ChannelFigures.{ChannelFigures}
+use Rattle.sil_model.specs.declared.parts.Class.TheVariants.{B}
 use Rattle.sil_model.specs.declared.parts.InRepair.TheVariants.{Lost}
 use Rattle.sil_model.specs.declared.parts.Subsystem.{Subsystem}
 use Rattle.sil_model.specs.declared.parts.TestPlan.{TestPlan}
+use Rattle.sil_model.specs.declared.parts.Version.TheVariants.{First}
 use Rattle.sil_model.specs.declared.parts.Vote.{Vote}
 
 -- The generator.
@@ -45,6 +47,10 @@ figures_of repair x =
       coverage = 1000 - 50 * draw x 4 3;
       restart_fault = 100 * draw x 5 6;
       repair = repair;
+      mrt = repair;
+      crews = 8;
+      safe = 0;
+      class = B;
     }
 
 -- the tests of a subsystem, by their draw: one a year, all channels together
@@ -54,6 +60,7 @@ plan_of d = record { first = 8760; every = 8760; stagger = 0; full_each = 1 + d 
 -- a subsystem, by the first six draws from the state x
 abbrev pub subsystem_of : List ℕ → Vote → ℕ → ℕ → Subsystem
 subsystem_of name vote repair x = record {
+  version = First;
   name = name;
   vote = vote;
   figures = figures_of repair x;

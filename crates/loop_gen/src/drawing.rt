@@ -1,6 +1,8 @@
 //! The loop of a number.
 
 ghost use Rattle.std.specs.Prelude.{◌≡◌, IfOk};
+ghost use Rattle.sil_model.specs.LoopValue.{version_of};
+ghost use Rattle.sil_model.specs.declared.parts.Version.TheVariants.{First};
 ghost use Rattle.loop_gen.specs.Drawn.{DrawnLaw, IsSuitable, drawn_of};
 
 use crate::generator::Generator;
@@ -17,6 +19,7 @@ const ORDER: u8 = 28;
 pub fn make_loop(alloc: Global, number: u64) -> Result<Loop, AllocError>
     ensures drawn { IfOk result (λ l. l ≡ drawn_of number) }
     ensures suitable { IsSuitable (drawn_of number) }
+    ensures version { IfOk result (λ l. version_of l.subsystems ≡ First) }
 {
     let mut generator = Generator::new(number);
     let mission = generator.mission();
