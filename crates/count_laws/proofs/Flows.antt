@@ -8,9 +8,9 @@ use Rattle.sil_fraction.specs.Sum.{total}
 use Rattle.sil_fraction.proofs.Laws.{add_comm, add_assoc}
 use Rattle.sil_fraction.proofs.Sums.{total-append, total-map}
 use Rattle.sil_model.specs.State.{FullState}
-use Rattle.sil_model.specs.Events.{Event, Failure, Kind, kinds, failures, failed, source, target, move_one, move_all, in_repair_of, share_of, common_rate, rate_at, channel_events, channels_events, common_events, events_from, events_of, through, flow_of, step_of}
+use Rattle.sil_model.specs.Events.{Event, Failure, Kind, kinds, failures, failed, source, target, move_one, move_all, in_repair_of, share_of, repair_hours, common_rate, rate_at, channel_events, channels_events, common_events, events_from, events_of, through, flow_of, step_of}
 use Rattle.sil_model.specs.Events.Kind.{Fails, Returns}
-use Rattle.sil_model.specs.declared.parts.Chan.TheVariants.{Repair}
+use Rattle.sil_model.specs.declared.parts.Chan.TheVariants.{Repair, Found}
 use Rattle.sil_model.specs.declared.parts.Subsystem.{Subsystem}
 use Rattle.count_laws.proofs.Exchange.{exchange, exchange_short, same-exchange, count-exchange, take-exchange, drop_past, drop_within, one-exchange, one_first, one_second, length-one, all-exchange}
 use Rattle.count_laws.proofs.Pairs.{IsPair}
@@ -35,7 +35,7 @@ in_repair-exchange a n i s h g = elim (cases_lt (suc i) a) [
   | inr high ↦
       let j : ℕ = i - a in
       let e : i ≡ a + j = omega arith in
-      rw (drop_within a j i s e, take-exchange n j (drop a s) (λ k. g (omega arith)), count-exchange Repair j (take n (drop a s))) refl
+      rw (drop_within a j i s e, take-exchange n j (drop a s) (λ k. g (omega arith)), count-exchange Repair j (take n (drop a s)), count-exchange Found j (take n (drop a s))) refl
 ]
 
 module _ (u : Subsystem) (a i : ℕ) (low : suc i ≢ a) (high : suc i ≢ a + u.vote.n) where
@@ -47,7 +47,7 @@ module _ (u : Subsystem) (a i : ℕ) (low : suc i ≢ a) (high : suc i ≢ a + u
 
   rate-exchange : (k : Kind) (s : FullState) → rate_at u a k (exchange i s) ≡ rate_at u a k s
   rate-exchange (Fails x) s = refl
-  rate-exchange Returns s = ap (λ n. share_of u n *ℚ ratio 1 u.figures.repair) (in_repair-exchange a u.vote.n i s low high)
+  rate-exchange (Returns r) s = ap (λ n. share_of u n *ℚ ratio 1 (repair_hours u r)) (in_repair-exchange a u.vote.n i s low high)
 
   module _ (f : FullState → Fraction) (s : FullState) where
     abbrev at : ℕ → Fraction
@@ -58,18 +58,18 @@ module _ (u : Subsystem) (a i : ℕ) (low : suc i ≢ a) (high : suc i ≢ a + u
 
     -- another channel
     apart : (c : ℕ) → c ≢ i → c ≢ suc i → at c ≡ turned_at c
-    apart c h g = all f i s (event c) (event c) (λ k. rate-exchange k s) (λ k. one-exchange (source k) (target k) c i s h g) kinds
+    apart c h g = all f i s (event c) (event c) (λ k. rate-exchange k s) (λ k. one-exchange (source k) (target k) c i s h g) (kinds u.version)
 
     -- each of the two does what the other would
     first : suc i < length s → at i ≡ turned_at (suc i)
-    first h = all f i s (event i) (event (suc i)) (λ k. rate-exchange k s) (λ k. one_first (source k) (target k) i s h) kinds
+    first h = all f i s (event i) (event (suc i)) (λ k. rate-exchange k s) (λ k. one_first (source k) (target k) i s h) (kinds u.version)
 
     second : suc i < length s → at (suc i) ≡ turned_at i
-    second h = all f i s (event (suc i)) (event i) (λ k. rate-exchange k s) (λ k. one_second (source k) (target k) i s h) kinds
+    second h = all f i s (event (suc i)) (event i) (λ k. rate-exchange k s) (λ k. one_second (source k) (target k) i s h) (kinds u.version)
 
     -- where there are not both, nothing is exchanged
     neither : length s ≤ suc i → (c : ℕ) → at c ≡ turned_at c
-    neither h c = all f i s (event c) (event c) (λ k. rate-exchange k s) unmoved kinds
+    neither h c = all f i s (event c) (event c) (λ k. rate-exchange k s) unmoved (kinds u.version)
       where
         unmoved : (k : Kind) → move_one c (source k) (target k) (exchange i s) ≡ exchange i (move_one c (source k) (target k) s)
         unmoved k = ap (move_one c (source k) (target k)) (exchange_short i s h)

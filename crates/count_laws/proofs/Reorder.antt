@@ -4,7 +4,7 @@ use Rattle.std.specs.Prelude.{if◌then◌else◌}
 use Rattle.sil_fraction.specs.Fraction.{Fraction}
 use Rattle.sil_model.specs.State.{FullState, is_same_chan, count_of}
 use Rattle.sil_model.specs.declared.parts.Chan.{Chan}
-use Rattle.sil_model.specs.declared.parts.Chan.TheVariants.{Work, Hidden, Deep, Repair}
+use Rattle.sil_model.specs.declared.parts.Chan.TheVariants.{Work, Hidden, Deep, Repair, Found}
 use Rattle.count_laws.proofs.Exchange.{exchange}
 
 is_same : (a b : Chan) → is_same_chan a b ≡ true → a ≡ b
@@ -12,6 +12,7 @@ is_same Work Work h = refl
 is_same Hidden Hidden h = refl
 is_same Deep Deep h = refl
 is_same Repair Repair h = refl
+is_same Found Found h = refl
 is_same a b h = cc
 
 same_self : (a : Chan) → is_same_chan a a ≡ true

@@ -6,8 +6,9 @@ use Rattle.std.proofs.lemmas.Bool.Decides.{eqb_tells}
 use Rattle.sil_fraction.specs.Fraction.{Fraction}
 use Rattle.sil_model.specs.State.{FullState, count_of}
 use Rattle.sil_model.specs.Pay.{Item, pay_of, schedule_of, schedule_of_phase, schedule_until}
-use Rattle.sil_model.specs.LoopValue.{LoopValue, channels_of, single_groups, groups_by_test, groups_from, groups_of}
+use Rattle.sil_model.specs.LoopValue.{LoopValue, channels_of, single_groups, whole_group, groups_by_test, groups_from, groups_of}
 use Rattle.sil_model.specs.declared.parts.Chan.{Chan}
+use Rattle.sil_model.specs.declared.parts.Version.{Version}
 use Rattle.sil_model.specs.declared.parts.Subsystem.{Subsystem}
 use Rattle.sil_model.specs.declared.parts.TestPlan.{TestPlan}
 use Rattle.sil_model.specs.declared.parts.Group.{Group}
@@ -54,28 +55,28 @@ module _ (all : List Subsystem) (s t : FullState) where
   abbrev IsAlike : Group → Type 0
   IsAlike g = (k : Chan) → count_in_group all g k s ≡ count_in_group all g k t
 
-  module _ (i a n : ℕ) (e : a ≡ channels_of (take i all)) where
-    together : IsAlike (record { subsystem = i; first_channel = 0; size = n }) → (k : Chan) → count_of k (take n (drop a s)) ≡ count_of k (take n (drop a t))
+  module _ (v : Version) (i a n : ℕ) (e : a ≡ channels_of (take i all)) where
+    together : IsAlike (whole_group v i n) → (k : Chan) → count_of k (take n (drop a s)) ≡ count_of k (take n (drop a t))
     together h k = let g : channels_of (take i all) + 0 ≡ a = omega arith in rw g at (h k)
 
-    single : All IsAlike (single_groups i 0 n) → (c : ℕ) → c < n → (k : Chan)
+    single : All IsAlike (single_groups v i 0 n) → (c : ℕ) → c < n → (k : Chan)
         → count_of k (take 1 (drop c (take n (drop a s)))) ≡ count_of k (take 1 (drop c (take n (drop a t))))
     single h c l k =
-        let d : Group = record { subsystem = i; first_channel = c; size = 1 } in
-        let alike : IsAlike d = rw (single-at i 0 n c c d l (omega arith)) at (h c d (omega (arith, length-single i 0 n))) in
+        let d : Group = record { subsystem = i; first_channel = c; size = 1; version = v } in
+        let alike : IsAlike d = rw (single-at v i 0 n c c d l (omega arith)) at (h c d (omega (arith, length-single v i 0 n))) in
         let g : channels_of (take i all) + c ≡ a + c = omega arith in
         rw (one_of_first c n (drop a s) l, one_of_first c n (drop a t) l, drop-drop c a s, drop-drop c a t) (rw g at (alike k))
 
     -- the channels of one subsystem: in one group, or alike one by one
     module _ (f : FullState → Fraction) (full : length (take n (drop a s)) ≡ n) (also_full : length (take n (drop a t)) ≡ n) where
-      one_group : IsSymmetric n f → IsAlike (record { subsystem = i; first_channel = 0; size = n }) → f (take n (drop a s)) ≡ f (take n (drop a t))
+      one_group : IsSymmetric n f → IsAlike (whole_group v i n) → f (take n (drop a s)) ≡ f (take n (drop a t))
       one_group steady h = reordered (take n (drop a s)) (take n (drop a t)) f (rw (sym full) at steady) (full ∙ sym also_full) (together h)
 
-      one_subsystem : (plan : Option TestPlan) → (IsTogether plan → IsSymmetric n f) → All IsAlike (groups_by_test i n plan)
+      one_subsystem : (plan : Option TestPlan) → (IsTogether plan → IsSymmetric n f) → All IsAlike (groups_by_test v i n plan)
           → f (take n (drop a s)) ≡ f (take n (drop a t))
-      one_subsystem None steady h = one_group (steady tt) (h 0 (record { subsystem = i; first_channel = 0; size = n }) (omega arith))
+      one_subsystem None steady h = one_group (steady tt) (h 0 (whole_group v i n) (omega arith))
       one_subsystem (Some p) steady h = elim (eqb_tells p.stagger 0) [
-        | inl e ↦ one_group (steady e.1) ((rw (e.0) at h) 0 (record { subsystem = i; first_channel = 0; size = n }) (omega arith))
+        | inl e ↦ one_group (steady e.1) ((rw (e.0) at h) 0 (whole_group v i n) (omega arith))
         | inr e ↦ ap f (all_alike (take n (drop a s)) (take n (drop a t)) (full ∙ sym also_full) (λ c l. single (rw (e.0) at h) c (omega arith)))
       ]
 
@@ -98,10 +99,10 @@ module _ (all : List Subsystem) (s t : FullState) where
       let others : (j : ℕ) → IsPair us j → (z : FullState) → f (take n y ++ exchange j z) ≡ f (take n y ++ z) = λ j k z.
       ap f (exchange_behind (take n y) (n + j) j z (omega arith)) ∙ steady (n + j) (inr (j, refl, k)) (take n y ++ z) in
       let first : f (take n x ++ drop n x) ≡ f (take n y ++ drop n x) =
-      one_subsystem i a n e (λ z. f (z ++ drop n x)) long also_long u.test own (All-left IsAlike (groups_by_test i n u.test) (groups_from (suc i) us) h) in
+      one_subsystem u.version i a n e (λ z. f (z ++ drop n x)) long also_long u.test own (All-left IsAlike (groups_by_test u.version i n u.test) (groups_from (suc i) us) h) in
       let later : f (take n y ++ drop (a + n) s) ≡ f (take n y ++ drop (a + n) t) =
       from_subsystem us (suc i) (a + n) (rest_next all i u us d) (omega (arith, channels_next all i u us d))
-      (All-right IsAlike (groups_by_test i n u.test) (groups_from (suc i) us) h)
+      (All-right IsAlike (groups_by_test u.version i n u.test) (groups_from (suc i) us) h)
       (omega arith) (omega arith) (λ z. f (take n y ++ z)) others in
       ap f (sym (take-append-drop n x)) ∙ first ∙ ap (λ z. f (take n y ++ z)) (drop-drop n a s) ∙ later
       ∙ ap (λ z. f (take n y ++ z)) (sym (drop-drop n a t)) ∙ ap f (take-append-drop n y)

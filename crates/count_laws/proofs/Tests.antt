@@ -6,10 +6,10 @@ use Rattle.sil_fraction.specs.Fraction.{Fraction, ◌+ℚ◌, ◌*ℚ◌, ratio}
 use Rattle.sil_fraction.proofs.Laws.{mul-add, front}
 use Rattle.sil_fraction.proofs.Sums.{add_swap}
 use Rattle.sil_model.specs.State.{FullState}
-use Rattle.sil_model.specs.Calendar.{ChannelTest, first_test, is_tested, is_full, test_of, tests_of, tests_from}
+use Rattle.sil_model.specs.Calendar.{ChannelTest, found_in, first_test, is_tested, is_full, test_of, tests_of, tests_from}
 use Rattle.sil_model.specs.Pay.{Mode, tested, testing_of, passage_of}
 use Rattle.sil_model.specs.declared.parts.Chan.{Chan}
-use Rattle.sil_model.specs.declared.parts.Chan.TheVariants.{Work, Hidden, Deep, Repair}
+use Rattle.sil_model.specs.declared.parts.Chan.TheVariants.{Work, Hidden, Deep, Repair, Found}
 use Rattle.sil_model.specs.declared.parts.Subsystem.{Subsystem}
 use Rattle.sil_model.specs.declared.parts.TestPlan.{TestPlan}
 use Rattle.count_laws.specs.AfterTests.{after_tests}
@@ -40,17 +40,18 @@ both_along i ts rs h k g s =
 module _ (i : ℕ) (t : ChannelTest) (h : t.channel ≢ i) (k : t.channel ≢ suc i) (g : FullState → Fraction) (s : FullState) where
   one_tested : (c : Chan) → tested t c g (exchange i s) ≡ tested t c (λ x. g (exchange i x)) s
   one_tested Work = rw (set-exchange t.channel i s Hidden h k) refl
-  one_tested Hidden = rw (set-exchange t.channel i s Repair h k) refl
-  one_tested Deep = rw (set-exchange t.channel i s Repair h k) refl
+  one_tested Hidden = rw (set-exchange t.channel i s t.found h k) refl
+  one_tested Deep = rw (set-exchange t.channel i s t.found h k) refl
   one_tested Repair = refl
+  one_tested Found = refl
 
   one_along : after_tests (t ∷ []) g (exchange i s) ≡ after_tests (t ∷ []) (λ x. g (exchange i x)) s
   one_along = rw (get_or-exchange t.channel i s Work h k) (one_tested (get_or s t.channel Work))
 
 -- two tests that are alike, of the two channels that are exchanged
-module _ (full : Bool) (fault : Fraction) where
+module _ (full : Bool) (fault : Fraction) (reached : Chan) where
   abbrev test : ℕ → ChannelTest
-  test c = record { channel = c; full = full; fault = fault }
+  test c = record { channel = c; full = full; fault = fault; found = reached }
 
   abbrev two : ℕ → (FullState → Fraction) → FullState → Fraction
   two i g s = after_tests (test i ∷ test (suc i) ∷ []) g s
@@ -61,6 +62,7 @@ module _ (full : Bool) (fault : Fraction) where
   shifted c a Hidden g s = refl
   shifted c a Deep g s = refl
   shifted c a Repair g s = refl
+  shifted c a Found g s = refl
 
   two-shifted : (i : ℕ) (a : Chan) (g : FullState → Fraction) (s : FullState) → two (suc i) g (a ∷ s) ≡ two i (λ x. g (a ∷ x)) s
   two-shifted i a g s =
@@ -81,53 +83,65 @@ module _ (full : Bool) (fault : Fraction) where
       )
       (add_swap _ _ _ _)
 
-first_two : (full : Bool) (fault : Fraction) (g : FullState → Fraction) (a b : Chan) (s : FullState)
-    → two full fault 0 g (b ∷ a ∷ s) ≡ two full fault 0 (λ x. g (exchange 0 x)) (a ∷ b ∷ s)
-first_two full fault g Work Work s = both_work full fault _ _ _ _ _
-first_two full fault g Work Hidden s = refl
-first_two true fault g Work Deep s = refl
-first_two false fault g Work Deep s = refl
-first_two full fault g Work Repair s = refl
-first_two full fault g Hidden Work s = refl
-first_two full fault g Hidden Hidden s = refl
-first_two true fault g Hidden Deep s = refl
-first_two false fault g Hidden Deep s = refl
-first_two full fault g Hidden Repair s = refl
-first_two true fault g Deep Work s = refl
-first_two false fault g Deep Work s = refl
-first_two true fault g Deep Hidden s = refl
-first_two false fault g Deep Hidden s = refl
-first_two true fault g Deep Deep s = refl
-first_two false fault g Deep Deep s = refl
-first_two true fault g Deep Repair s = refl
-first_two false fault g Deep Repair s = refl
-first_two full fault g Repair Work s = refl
-first_two full fault g Repair Hidden s = refl
-first_two true fault g Repair Deep s = refl
-first_two false fault g Repair Deep s = refl
-first_two full fault g Repair Repair s = refl
+first_two : (full : Bool) (fault : Fraction) (reached : Chan) (g : FullState → Fraction) (a b : Chan) (s : FullState)
+    → two full fault reached 0 g (b ∷ a ∷ s) ≡ two full fault reached 0 (λ x. g (exchange 0 x)) (a ∷ b ∷ s)
+first_two full fault reached g Work Work s = both_work full fault reached _ _ _ _ _
+first_two full fault reached g Work Hidden s = refl
+first_two true fault reached g Work Deep s = refl
+first_two false fault reached g Work Deep s = refl
+first_two full fault reached g Work Repair s = refl
+first_two full fault reached g Hidden Work s = refl
+first_two full fault reached g Hidden Hidden s = refl
+first_two true fault reached g Hidden Deep s = refl
+first_two false fault reached g Hidden Deep s = refl
+first_two full fault reached g Hidden Repair s = refl
+first_two true fault reached g Deep Work s = refl
+first_two false fault reached g Deep Work s = refl
+first_two true fault reached g Deep Hidden s = refl
+first_two false fault reached g Deep Hidden s = refl
+first_two true fault reached g Deep Deep s = refl
+first_two false fault reached g Deep Deep s = refl
+first_two true fault reached g Deep Repair s = refl
+first_two false fault reached g Deep Repair s = refl
+first_two full fault reached g Repair Work s = refl
+first_two full fault reached g Repair Hidden s = refl
+first_two true fault reached g Repair Deep s = refl
+first_two false fault reached g Repair Deep s = refl
+first_two full fault reached g Repair Repair s = refl
+first_two full fault reached g Work Found s = refl
+first_two full fault reached g Hidden Found s = refl
+first_two true fault reached g Deep Found s = refl
+first_two false fault reached g Deep Found s = refl
+first_two full fault reached g Repair Found s = refl
+first_two full fault reached g Found Work s = refl
+first_two full fault reached g Found Hidden s = refl
+first_two true fault reached g Found Deep s = refl
+first_two false fault reached g Found Deep s = refl
+first_two full fault reached g Found Repair s = refl
+first_two full fault reached g Found Found s = refl
 
-alone : (full : Bool) (fault : Fraction) (g : FullState → Fraction) (a : Chan) → two full fault 0 g (a ∷ []) ≡ two full fault 0 (λ x. g (exchange 0 x)) (a ∷ [])
-alone full fault g Work = refl
-alone full fault g Hidden = refl
-alone true fault g Deep = refl
-alone false fault g Deep = refl
-alone full fault g Repair = refl
+alone : (full : Bool) (fault : Fraction) (reached : Chan) (g : FullState → Fraction) (a : Chan) → two full fault reached 0 g (a ∷ []) ≡ two full fault reached 0 (λ x. g (exchange 0 x)) (a ∷ [])
+alone full fault reached g Work = refl
+alone full fault reached g Hidden = refl
+alone true fault reached g Deep = refl
+alone false fault reached g Deep = refl
+alone full fault reached g Repair = refl
+alone full fault reached g Found = refl
 
-two_along : (full : Bool) (fault : Fraction) (i : ℕ) → IsAlong i (test full fault i ∷ test full fault (suc i) ∷ [])
-two_along full fault zero g [] = refl
-two_along full fault zero g (a ∷ []) = alone full fault g a
-two_along full fault zero g (a ∷ (b ∷ s)) = first_two full fault g a b s
-two_along full fault (suc i) g [] = refl
-two_along full fault (suc i) g (a ∷ s) =
-    two-shifted full fault i a g (exchange i s) ∙ two_along full fault i (λ x. g (a ∷ x)) s ∙ sym (two-shifted full fault i a (λ x. g (exchange (suc i) x)) s)
+two_along : (full : Bool) (fault : Fraction) (reached : Chan) (i : ℕ) → IsAlong i (test full fault reached i ∷ test full fault reached (suc i) ∷ [])
+two_along full fault reached zero g [] = refl
+two_along full fault reached zero g (a ∷ []) = alone full fault reached g a
+two_along full fault reached zero g (a ∷ (b ∷ s)) = first_two full fault reached g a b s
+two_along full fault reached (suc i) g [] = refl
+two_along full fault reached (suc i) g (a ∷ s) =
+    two-shifted full fault reached i a g (exchange i s) ∙ two_along full fault reached i (λ x. g (a ∷ x)) s ∙ sym (two-shifted full fault reached i a (λ x. g (exchange (suc i) x)) s)
 
 module _ (mission t : ℕ) where
   test_apart : (u : Subsystem) (plan : Option TestPlan) (k c i : ℕ) → c ≢ i → c ≢ suc i → IsAlong i (test_of mission t u plan k c)
   test_apart u None k c i h g = λ f s. refl
   test_apart u (Some p) k c i h g =
       elim (is_tested mission t p k) as
-      (λ b. IsAlong i (if b then record { channel = c; full = is_full mission t p k; fault = ratio u.figures.restart_fault 1_000_000 } ∷ [] else []))
+      (λ b. IsAlong i (if b then record { channel = c; full = is_full mission t p k; fault = ratio u.figures.restart_fault 1_000_000; found = found_in u.version } ∷ [] else []))
       [ true ↦ one_along i _ h g | false ↦ λ f s. refl ]
 
   tests_apart : (u : Subsystem) (n k c i : ℕ) → (c + n ≤ i) ⊎ (suc i < c) → IsAlong i (tests_of mission t u n k c)
@@ -149,9 +163,9 @@ module _ (mission t : ℕ) where
       let none : (j : ℕ) → j * p.stagger ≡ 0 = λ j. omega (arith, ap (λ x. j * x) h) in
       let same : first_test p (suc k) ≡ first_test p k = omega (arith, none k, none (suc k)) in
       rw same (elim (is_tested mission t p k) as (λ b. IsAlong i (
-      (if b then record { channel = i; full = is_full mission t p k; fault = ratio u.figures.restart_fault 1_000_000 } ∷ [] else [])
-      ++ (if b then record { channel = suc i; full = is_full mission t p k; fault = ratio u.figures.restart_fault 1_000_000 } ∷ [] else [])
-      )) [ true ↦ two_along (is_full mission t p k) (ratio u.figures.restart_fault 1_000_000) i | false ↦ λ f s. refl ])
+      (if b then record { channel = i; full = is_full mission t p k; fault = ratio u.figures.restart_fault 1_000_000; found = found_in u.version } ∷ [] else [])
+      ++ (if b then record { channel = suc i; full = is_full mission t p k; fault = ratio u.figures.restart_fault 1_000_000; found = found_in u.version } ∷ [] else [])
+      )) [ true ↦ two_along (is_full mission t p k) (ratio u.figures.restart_fault 1_000_000) (found_in u.version) i | false ↦ λ f s. refl ])
 
   tests_around : (u : Subsystem) → IsTogether u.test → (n k c i j : ℕ) → i ≡ c + j → suc j < n → IsAlong i (tests_of mission t u n k c)
   tests_around u h zero k c i j e g = absurd (omega arith)
