@@ -3,6 +3,7 @@ use Rattle.std.proofs.Common.{◌≡◌, ℕ, zero, suc, ◌+◌, ◌<◌, true,
 use Rattle.std.specs.Prelude.{Option, Some, None, map, ◌==◌}
 use Rattle.std.proofs.lemmas.List.{get_or-drop, get_or-map, length-map, map-append}
 use Rattle.sil_fraction.specs.Fraction.{ratio}
+use Rattle.sil_model.specs.Calendar.{found_in}
 use Rattle.sil_model.specs.LoopValue.{channels_of, single_groups, groups_by_test, groups_from, groups_of}
 use Rattle.sil_model.specs.declared.parts.Group.{Group}
 use Rattle.sil_model.specs.declared.parts.Subsystem.{Subsystem}
@@ -15,31 +16,31 @@ use Rattle.lumped_laws.proofs.LaidOut.{groups_where, groups-channels, groups-lai
 
 -- the channels c + k and so on of a subsystem, as the calendar gives them
 abbrev own_channels : Subsystem → ℕ → Group → GroupChannels
-own_channels u c y = record { first = c + y.first_channel; size = y.size; fault = ratio u.figures.restart_fault 1_000_000 }
+own_channels u c y = record { first = c + y.first_channel; size = y.size; fault = ratio u.figures.restart_fault 1_000_000; found = found_in u.version }
 
 -- those of a group of a loop; v stands for a subsystem that there is not
 module _ (all : List Subsystem) (v : Subsystem) where
   abbrev of_group : Group → GroupChannels
-  of_group y = record { first = first_of all y; size = y.size; fault = ratio (get_or all y.subsystem v).figures.restart_fault 1_000_000 }
+  of_group y = record { first = first_of all y; size = y.size; fault = ratio (get_or all y.subsystem v).figures.restart_fault 1_000_000; found = found_in (get_or all y.subsystem v).version }
 
   module _ (u : Subsystem) (i c : ℕ) (e : c ≡ channels_of (take i all)) (h : u ≡ get_or all i v) where
     abbrev AreOwn : List Group → Type 0
     AreOwn ys = map (own_channels u c) ys ≡ map of_group ys
 
-    singles : (k n : ℕ) → AreOwn (single_groups i k n)
+    singles : (k n : ℕ) → AreOwn (single_groups u.version i k n)
     singles k zero = refl
     singles k (suc n) = cc (e, h, singles (suc k) n)
 
-    by_test : (n : ℕ) (plan : Option TestPlan) → AreOwn (groups_by_test i n plan)
+    by_test : (n : ℕ) (plan : Option TestPlan) → AreOwn (groups_by_test u.version i n plan)
     by_test n None = cc (e, h)
-    by_test n (Some p) = elim (p.stagger == 0) as (λ b. AreOwn (groups_where b i n)) [ true ↦ cc (e, h) | false ↦ singles 0 n ]
+    by_test n (Some p) = elim (p.stagger == 0) as (λ b. AreOwn (groups_where b u.version i n)) [ true ↦ cc (e, h) | false ↦ singles 0 n ]
 
   from_subsystem : (us : List Subsystem) (i c : ℕ) → us ≡ drop i all → c ≡ channels_of (take i all)
       → channels_from i c us ≡ map of_group (groups_from i us)
   from_subsystem [] i c d e = refl
   from_subsystem (u ∷ us) i c d e =
       let n : ℕ = u.vote.n in
-      let own : List Group = groups_by_test i n u.test in
+      let own : List Group = groups_by_test u.version i n u.test in
       let here : u ≡ get_or all i v = ap (λ (xs : List Subsystem). get_or xs 0 v) d ∙ get_or-drop i all 0 v ∙ ap (λ j. get_or all j v) (omega arith) in
       let next : c + n ≡ channels_of (take (suc i) all) = omega (arith, e, channels_next all i u us d) in
       cc (by_test u i c e here n u.test, from_subsystem us (suc i) (c + n) (rest_next all i u us d) next, map-append of_group own (groups_from (suc i) us))
@@ -69,6 +70,7 @@ channels (u ∷ us) g x y l = record {
   first = ap (λ (c : GroupChannels). c.first) (at (u ∷ us) u g x y l);
   size = ap (λ (c : GroupChannels). c.size) (at (u ∷ us) u g x y l);
   fault = λ v. ap (λ (c : GroupChannels). c.fault) (at (u ∷ us) v g x y l);
+  found = λ v. ap (λ (c : GroupChannels). c.found) (at (u ∷ us) v g x y l);
 }
 
 pub group_laws : (us : List Subsystem) → GroupLaw us

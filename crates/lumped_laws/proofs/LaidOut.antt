@@ -3,10 +3,11 @@ use Rattle.std.proofs.Common.{◌≡◌, ℕ, Bool, zero, suc, ◌+◌, ◌<◌,
 use Rattle.std.specs.Prelude.{All, Option, Some, None, if◌then◌else◌, ◌==◌}
 use Rattle.std.proofs.lemmas.List.Elements.{All-head, All-tail}
 use Rattle.sil_model.specs.State.{FullState, count_of, start_of}
-use Rattle.sil_model.specs.LoopValue.{channels_of, single_groups, groups_by_test, groups_from, groups_of}
+use Rattle.sil_model.specs.LoopValue.{channels_of, single_groups, whole_group, groups_by_test, groups_from, groups_of}
 use Rattle.sil_model.specs.Counts.{count_in}
 use Rattle.sil_model.specs.declared.parts.Chan.{Chan}
-use Rattle.sil_model.specs.declared.parts.Chan.TheVariants.{Work, Hidden, Deep, Repair}
+use Rattle.sil_model.specs.declared.parts.Chan.TheVariants.{Work, Hidden, Deep, Repair, Found}
+use Rattle.sil_model.specs.declared.parts.Version.{Version}
 use Rattle.sil_model.specs.declared.parts.Subsystem.{Subsystem}
 use Rattle.sil_model.specs.declared.parts.TestPlan.{TestPlan}
 use Rattle.sil_model.specs.declared.parts.Group.{Group}
@@ -17,29 +18,26 @@ use Rattle.count_laws.proofs.SameCounts.{rest_next, channels_next}
 use Rattle.lumped_laws.specs.GroupLaws.{channels_over}
 use Rattle.lumped_laws.proofs.GroupCounts.{channels_over-append, start_over, start_over-append}
 
--- the group of all channels of a subsystem, and its groups by whether they are tested together
-abbrev pub all_of : ℕ → ℕ → Group
-all_of i n = record { subsystem = i; first_channel = 0; size = n }
-
-abbrev pub groups_where : Bool → ℕ → ℕ → List Group
-groups_where b i n = if b then all_of i n ∷ [] else single_groups i 0 n
+-- the groups of a subsystem by whether its channels are tested together
+abbrev pub groups_where : Bool → Version → ℕ → ℕ → List Group
+groups_where b v i n = if b then whole_group v i n ∷ [] else single_groups v i 0 n
 
 -- the groups of one subsystem have its channels
 
-singles-channels : (i c n : ℕ) → channels_over (single_groups i c n) ≡ n
-singles-channels i c zero = refl
-singles-channels i c (suc n) = omega (arith, singles-channels i (suc c) n)
+singles-channels : (v : Version) (i c n : ℕ) → channels_over (single_groups v i c n) ≡ n
+singles-channels v i c zero = refl
+singles-channels v i c (suc n) = omega (arith, singles-channels v i (suc c) n)
 
-pub by_test-channels : (i n : ℕ) (plan : Option TestPlan) → channels_over (groups_by_test i n plan) ≡ n
-by_test-channels i n None = omega arith
-by_test-channels i n (Some p) =
-    elim (p.stagger == 0) as (λ b. channels_over (groups_where b i n) ≡ n) [ true ↦ omega arith | false ↦ singles-channels i 0 n ]
+pub by_test-channels : (v : Version) (i n : ℕ) (plan : Option TestPlan) → channels_over (groups_by_test v i n plan) ≡ n
+by_test-channels v i n None = omega arith
+by_test-channels v i n (Some p) =
+    elim (p.stagger == 0) as (λ b. channels_over (groups_where b v i n) ≡ n) [ true ↦ omega arith | false ↦ singles-channels v i 0 n ]
 
 from-channels : (i : ℕ) (us : List Subsystem) → channels_over (groups_from i us) ≡ channels_of us
 from-channels i [] = refl
 from-channels i (u ∷ us) =
-    let own : List Group = groups_by_test i u.vote.n u.test in
-    omega (arith, channels_over-append own (groups_from (suc i) us), by_test-channels i u.vote.n u.test, from-channels (suc i) us)
+    let own : List Group = groups_by_test u.version i u.vote.n u.test in
+    omega (arith, channels_over-append own (groups_from (suc i) us), by_test-channels u.version i u.vote.n u.test, from-channels (suc i) us)
 
 pub groups-channels : (us : List Subsystem) → channels_over (groups_of us) ≡ channels_of us
 unfolding groups_of
@@ -57,24 +55,24 @@ module _ (all : List Subsystem) where
       let e : a + (g.size + channels_over xs) ≡ (a + g.size) + channels_over xs = omega arith in
       (h.0, laid-append (a + g.size) xs ys h.1 (rw e at k))
 
-  module _ (i a : ℕ) (e : a ≡ channels_of (take i all)) where
-    singles : (c n b : ℕ) → b ≡ a + c → AreLaid b (single_groups i c n)
+  module _ (v : Version) (i a : ℕ) (e : a ≡ channels_of (take i all)) where
+    singles : (c n b : ℕ) → b ≡ a + c → AreLaid b (single_groups v i c n)
     singles c zero b d = tt
     singles c (suc n) b d = (omega arith, singles (suc c) n (b + 1) (omega arith))
 
-    by_test : (n : ℕ) (plan : Option TestPlan) → AreLaid a (groups_by_test i n plan)
+    by_test : (n : ℕ) (plan : Option TestPlan) → AreLaid a (groups_by_test v i n plan)
     by_test n None = (omega arith, tt)
     by_test n (Some p) =
-        elim (p.stagger == 0) as (λ b. AreLaid a (groups_where b i n)) [ true ↦ (omega arith, tt) | false ↦ singles 0 n a (omega arith) ]
+        elim (p.stagger == 0) as (λ b. AreLaid a (groups_where b v i n)) [ true ↦ (omega arith, tt) | false ↦ singles 0 n a (omega arith) ]
 
   from_subsystem : (us : List Subsystem) (i a : ℕ) → us ≡ drop i all → a ≡ channels_of (take i all) → AreLaid a (groups_from i us)
   from_subsystem [] i a d e = tt
   from_subsystem (u ∷ us) i a d e =
       let n : ℕ = u.vote.n in
-      let own : List Group = groups_by_test i n u.test in
+      let own : List Group = groups_by_test u.version i n u.test in
       let next : a + n ≡ channels_of (take (suc i) all) = omega (arith, e, channels_next all i u us d) in
       let rest : AreLaid (a + n) (groups_from (suc i) us) = from_subsystem us (suc i) (a + n) (rest_next all i u us d) next in
-      laid-append a own (groups_from (suc i) us) (by_test i a e n u.test) (rw (by_test-channels i n u.test) rest)
+      laid-append a own (groups_from (suc i) us) (by_test u.version i a e n u.test) (rw (by_test-channels u.version i n u.test) rest)
 
   pub groups-laid : AreLaid 0 (groups_of all)
   unfolding groups_of
@@ -92,6 +90,7 @@ module _ (all : List Subsystem) where
   tally-at s cs Hidden = refl
   tally-at s cs Deep = refl
   tally-at s cs Repair = refl
+  tally-at s cs Found = refl
 
   pub count-at : (a : ℕ) (gs : List Group) → AreLaid a gs → (g : ℕ) (d : Group) → g < length gs → (k : Chan) (s : FullState)
       → count_in (counts_of gs (drop a s)) g k ≡ count_in_group all (get_or gs g d) k s
@@ -115,7 +114,7 @@ module _ (all : List Subsystem) where
       let own : IsSameIn s t g = All-head (IsSameIn s t) g gs same in
       let of : FullState → List ℕ = λ x. tally_of (take g.size (drop a x)) in
       let b : ℕ = first_of all g in
-      let alike : tally_of (take g.size (drop b s)) ≡ tally_of (take g.size (drop b t)) = cc (own Work, own Hidden, own Deep, own Repair) in
+      let alike : tally_of (take g.size (drop b s)) ≡ tally_of (take g.size (drop b t)) = cc (own Work, own Hidden, own Deep, own Repair, own Found) in
       let first : of s ≡ of t = rw (h.0) at alike in
       let rest : counts_of gs (drop (a + g.size) s) ≡ counts_of gs (drop (a + g.size) t) =
       counts-same (a + g.size) gs h.1 s t (All-tail (IsSameIn s t) g gs same) in
@@ -123,21 +122,21 @@ module _ (all : List Subsystem) where
 
 -- the start, group by group
 
-singles-start : (i c n : ℕ) → start_over (single_groups i c n) ≡ replicate n Work
-singles-start i c zero = refl
-singles-start i c (suc n) = ap (λ t. Work ∷ t) (singles-start i (suc c) n)
+singles-start : (v : Version) (i c n : ℕ) → start_over (single_groups v i c n) ≡ replicate n Work
+singles-start v i c zero = refl
+singles-start v i c (suc n) = ap (λ t. Work ∷ t) (singles-start v i (suc c) n)
 
-by_test-start : (i n : ℕ) (plan : Option TestPlan) → start_over (groups_by_test i n plan) ≡ replicate n Work
-by_test-start i n None = append-nil _
-by_test-start i n (Some p) =
-    elim (p.stagger == 0) as (λ b. start_over (groups_where b i n) ≡ replicate n Work) [ true ↦ append-nil _ | false ↦ singles-start i 0 n ]
+by_test-start : (v : Version) (i n : ℕ) (plan : Option TestPlan) → start_over (groups_by_test v i n plan) ≡ replicate n Work
+by_test-start v i n None = append-nil _
+by_test-start v i n (Some p) =
+    elim (p.stagger == 0) as (λ b. start_over (groups_where b v i n) ≡ replicate n Work) [ true ↦ append-nil _ | false ↦ singles-start v i 0 n ]
 
 from-start : (i : ℕ) (us : List Subsystem) → start_over (groups_from i us) ≡ start_of us
 unfolding start_of
 from-start i [] = refl
 from-start i (u ∷ us) =
-    start_over-append (groups_by_test i u.vote.n u.test) (groups_from (suc i) us)
-    ∙ rw (by_test-start i u.vote.n u.test, from-start (suc i) us) refl
+    start_over-append (groups_by_test u.version i u.vote.n u.test) (groups_from (suc i) us)
+    ∙ rw (by_test-start u.version i u.vote.n u.test, from-start (suc i) us) refl
 
 pub groups-start : (us : List Subsystem) → start_over (groups_of us) ≡ start_of us
 unfolding groups_of

@@ -5,7 +5,7 @@ use Rattle.sil_model.specs.State.{FullState}
 use Rattle.sil_model.specs.Series.{Values}
 use Rattle.sil_model.specs.LoopValue.{groups_by_test, groups_from, groups_of}
 use Rattle.sil_model.specs.Counts.{number_of}
-use Rattle.sil_model.specs.declared.parts.Chan.TheVariants.{Work, Hidden, Deep, Repair}
+use Rattle.sil_model.specs.declared.parts.Chan.TheVariants.{Work, Hidden, Deep, Repair, Found}
 use Rattle.sil_model.specs.declared.parts.Group.{Group}
 use Rattle.sil_model.specs.declared.parts.Subsystem.{Subsystem}
 use Rattle.sil_model.specs.declared.parts.TestPlan.{TestPlan}
@@ -18,7 +18,7 @@ use Rattle.lumped_laws.specs.CountsOfState.{counts_of_state, number_of_state}
 use Rattle.lumped_laws.specs.StateOfCounts.{state_numbered}
 use Rattle.lumped_laws.specs.GroupLaws.{channels_over}
 use Rattle.lumped_laws.proofs.GroupCounts.{counts_of-append}
-use Rattle.lumped_laws.proofs.LaidOut.{all_of, by_test-channels}
+use Rattle.lumped_laws.proofs.LaidOut.{by_test-channels}
 use Rattle.lumped_laws.proofs.States.{alike}
 
 -- a value that no exchange of two neighbours in a group changes is the same at the full state of the number
@@ -41,9 +41,9 @@ counts_before (g ∷ gs) j s h =
     take-exchange g.size j s (λ d. absurd (omega arith)) ∙ exchange_short j (take g.size s) (omega (arith, length-take g.size s)) in
     rw (first, drop_within g.size k j s e, counts_before gs k (drop g.size s) (omega arith)) refl
 
-one_group : (i n : ℕ) (plan : Option TestPlan) → IsTogether plan → groups_by_test i n plan ≡ all_of i n ∷ []
-one_group i n None h = refl
-one_group i n (Some p) h = rw h refl
+one_group : (v : Version) (i n : ℕ) (plan : Option TestPlan) → IsTogether plan → groups_by_test v i n plan ≡ whole_group v i n ∷ []
+one_group v i n None h = refl
+one_group v i n (Some p) h = rw h refl
 
 counts_from : (us : List Subsystem) (i j : ℕ) → IsPair us j
     → (s : FullState) → counts_of (groups_from i us) (exchange j s) ≡ counts_of (groups_from i us) s
@@ -51,8 +51,8 @@ counts_from [] i j p s = absurd p
 counts_from (u ∷ us) i j (inl h) s =
     let n : ℕ = u.vote.n in
     let own : FullState = take n s in
-    rw (one_group i n u.test h.1, take-exchange n j s (λ e. absurd (omega (arith, h.0))), drop_past n j s h.0)
-    (cc (count-exchange Work j own, count-exchange Hidden j own, count-exchange Deep j own, count-exchange Repair j own))
+    rw (one_group u.version i n u.test h.1, take-exchange n j s (λ e. absurd (omega (arith, h.0))), drop_past n j s h.0)
+    (cc (count-exchange Work j own, count-exchange Hidden j own, count-exchange Deep j own, count-exchange Repair j own, count-exchange Found j own))
 counts_from (u ∷ us) i j (inr (k, e, p)) s =
     let n : ℕ = u.vote.n in
     let xs : List Group = groups_by_test i n u.test in

@@ -12,7 +12,7 @@ use Rattle.sil_model.specs.Pay.{Mode, tested, passage_of}
 use Rattle.sil_model.specs.Pay.Mode.{Down, Up, Entry, AtEnd, UpAtEnd}
 use Rattle.sil_model.specs.LoopValue.{LoopValue}
 use Rattle.sil_model.specs.declared.parts.Chan.{Chan}
-use Rattle.sil_model.specs.declared.parts.Chan.TheVariants.{Work, Hidden, Deep, Repair}
+use Rattle.sil_model.specs.declared.parts.Chan.TheVariants.{Work, Hidden, Deep, Repair, Found}
 use Rattle.sil_model.specs.declared.parts.Subsystem.{Subsystem}
 use Rattle.count_laws.specs.AfterTests.{after_tests}
 use Rattle.count_laws.proofs.Exchange.{exchange}
@@ -35,16 +35,18 @@ module _ (t : ChannelTest) where
       cc (mul-add t.fault (f x) (g x), mul-add r (f s) (g s), add_swap (t.fault *ℚ f x) (t.fault *ℚ g x) (r *ℚ f s) (r *ℚ g s))
   tested-add f g Hidden s = refl
   tested-add f g Deep s =
-      let x : FullState = set s t.channel Repair in
+      let x : FullState = set s t.channel t.found in
       elim t.full as (λ b. (if b then f x +ℚ g x else f s +ℚ g s) ≡ (if b then f x else f s) +ℚ (if b then g x else g s))
       [ true ↦ refl | false ↦ refl ]
   tested-add f g Repair s = refl
+  tested-add f g Found s = refl
 
   tested-nothing : (k : Chan) (s : FullState) → tested t k (λ x. whole 0) s ≡ whole 0
   tested-nothing Work s = cc (mul-zero t.fault, mul-zero (whole 1 -ℚ t.fault), zero-add (whole 0))
   tested-nothing Hidden s = refl
   tested-nothing Deep s = elim t.full as (λ b. (if b then whole 0 else whole 0) ≡ whole 0) [ true ↦ refl | false ↦ refl ]
   tested-nothing Repair s = refl
+  tested-nothing Found s = refl
 
 pub after-add : (ts : List ChannelTest) (f g : Values FullState) (s : FullState)
     → after_tests ts (λ x. f x +ℚ g x) s ≡ after_tests ts f s +ℚ after_tests ts g s
@@ -63,12 +65,13 @@ after-nothing (t ∷ ts) s =
 module _ (us : List Subsystem) where
   tested-full : (t : ChannelTest) (f g : Values FullState) → IsSame us f g → (k : Chan) → IsSame us (tested t k f) (tested t k g)
   tested-full t f g same Work s full = cc (same (set s t.channel Hidden) (tests-full us s t.channel Hidden full), same s full)
-  tested-full t f g same Hidden s full = same (set s t.channel Repair) (tests-full us s t.channel Repair full)
+  tested-full t f g same Hidden s full = same (set s t.channel t.found) (tests-full us s t.channel t.found full)
   tested-full t f g same Deep s full =
-      let x : FullState = set s t.channel Repair in
+      let x : FullState = set s t.channel t.found in
       elim t.full as (λ b. (if b then f x else f s) ≡ (if b then g x else g s))
-      [ true ↦ same x (tests-full us s t.channel Repair full) | false ↦ same s full ]
+      [ true ↦ same x (tests-full us s t.channel t.found full) | false ↦ same s full ]
   tested-full t f g same Repair s full = same s full
+  tested-full t f g same Found s full = same s full
 
   pub after-full : (ts : List ChannelTest) (f g : Values FullState) → IsSame us f g → IsSame us (after_tests ts f) (after_tests ts g)
   after-full [] f g same s full = same s full
