@@ -66,13 +66,20 @@ fn add_early<L: Ledger>(rung: &Rung, early: &[u64], stays: &mut [u128], steps: &
     }
 }
 
-/// Sums the vectors before the ticks of a block and after the last, each times its number, and each times its tail.
+/// A block of beats: the tick of these, and the numbers by which it is a sum of ticks.
+pub struct Block<'a, T> {
+    /// One tick.
+    pub tick: &'a T,
+    /// The numbers of the beats.
+    pub rung: &'a Rung,
+}
+
+/// Sums the vectors before the ticks of a block and after the last, each times its number, and each times its tail. `now` goes
+/// to the vector after the last tick.
 ///
 /// Those before the first number all have one tail, so that they are added before they are weighed.
-#[allow(clippy::too_many_arguments)]
 pub fn gather<T: Tick, L: Ledger>(
-    tick: &T,
-    rung: &Rung,
+    block: Block<'_, T>,
     now: &mut [u64],
     next: &mut [u64],
     early: &mut [u64],
@@ -80,18 +87,19 @@ pub fn gather<T: Tick, L: Ledger>(
     stays: &mut [u128],
     steps: &mut Steps<L>,
 )
-    requires now { length now.old ≡ T.size tick.now }
-    requires next { length next.old ≡ T.size tick.now }
-    requires early { length early.old ≡ T.size tick.now }
-    requires ends { length ends.old ≡ T.size tick.now }
-    requires stays { length stays.old ≡ T.size tick.now }
+    requires now { length now.old ≡ T.size block.tick.now }
+    requires next { length next.old ≡ T.size block.tick.now }
+    requires early { length early.old ≡ T.size block.tick.now }
+    requires ends { length ends.old ≡ T.size block.tick.now }
+    requires stays { length stays.old ≡ T.size block.tick.now }
     requires mass { IsMass now.old }
-    requires usable { IsUsable rung.now }
-    ensures ends { IsGathered (IsStep (T.step tick.now)) (T.loss tick.now) now.old ends.new (power_of rung.now.exponent) (rung.now.low + length rung.now.numbers.items) }
-    ensures stays { IsGathered (IsStep (T.step tick.now)) (T.loss tick.now) now.old stays.new
-        (tail_at (rung.now.low + length rung.now.numbers.items) (power_of rung.now.exponent)) (rung.now.low + length rung.now.numbers.items) }
-    ensures steps { steps.new + T.products tick.now + T.size tick.now ≤ steps.old + (rung.now.low + length rung.now.numbers.items) * (T.products tick.now + 2 * T.size tick.now) }
+    requires usable { IsUsable block.rung.now }
+    ensures ends { IsGathered (IsStep (T.step block.entry.tick.now)) (T.loss block.entry.tick.now) now.old ends.new (power_of block.entry.rung.now.exponent) (block.entry.rung.now.low + length block.entry.rung.now.numbers.items) }
+    ensures stays { IsGathered (IsStep (T.step block.entry.tick.now)) (T.loss block.entry.tick.now) now.old stays.new
+        (tail_at (block.entry.rung.now.low + length block.entry.rung.now.numbers.items) (power_of block.entry.rung.now.exponent)) (block.entry.rung.now.low + length block.entry.rung.now.numbers.items) }
+    ensures steps { steps.new + T.products block.entry.tick.now + T.size block.entry.tick.now ≤ steps.old + (block.entry.rung.now.low + length block.entry.rung.now.numbers.items) * (T.products block.entry.tick.now + 2 * T.size block.entry.tick.now) }
 {
+    let Block { tick, rung } = block;
     early_ticks(tick, rung.low, now, next, early, steps);
     ends.fill(0);
     stays.fill(0);

@@ -18,10 +18,6 @@ pub record ChainValue : Type 0 where
   pub hours : ℕ
   pub beats : ℕ
 
--- another name, for the crates above
-abbrev pub events_number : List Subsystem → ℕ
-events_number us = lumped_events_of us
-
 -- beats that are short enough for the loop
 pub record IsTimed (us : List Subsystem) (hours beats : ℕ) : Type 0 where
   pub some : 1 ≤ hours

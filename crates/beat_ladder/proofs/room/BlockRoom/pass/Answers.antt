@@ -8,10 +8,10 @@ use Rattle.beat_ladder.specs.Losses.{IsStep}
 use Rattle.beat_ladder.specs.declared.rung.Rung.{Rung}
 use Rattle.beat_ladder.proofs.Tails.{tail, ends_room}
 use Rattle.beat_ladder.proofs.Passes.{passed_after, passed_most, passed_least, passed_dwelt, passed_dwell_most, passed_dwell_least, passed_grows, passed_products}
-use Rattle.beat_ladder.proofs.room.pass_within.Given.{Over}
-use Rattle.beat_ladder.proofs.room.pass_within.Goals as goal
+use Rattle.beat_ladder.proofs.room.BlockRoom.pass.Given.{Over}
+use Rattle.beat_ladder.proofs.room.BlockRoom.pass.Goals as goal
 
-module _ (g : Over) (c : goal.After-slice_known-17-1 g) where
+module _ (g : Over) (c : goal.After-slice_known-7-1 g) where
   abbrev B : (Values ℕ → Values ℕ) → Type 0
   B T = IsStep (g.T.Tick.step c.args.tick.now) T
 
@@ -22,11 +22,11 @@ module _ (g : Over) (c : goal.After-slice_known-17-1 g) where
   r = c.args.rung.now
 
   ends_gathered : IsGathered B loss c.args.v.now c.gather.new.ends (power_of r.exponent) (r.low + length r.numbers.items)
-  ends_gathered = rw c.copy_from_slice.ensures.after at c.gather.ensures.ends
+  ends_gathered = c.gather.ensures.ends
 
   stays_gathered : IsGathered B loss c.args.v.now c.gather.new.stays (tail r.exponent r.low r.numbers.items r.tails.items r.held r.tailed)
       (r.low + length r.numbers.items)
-  stays_gathered = rw c.copy_from_slice.ensures.after at c.gather.ensures.stays
+  stays_gathered = c.gather.ensures.stays
 
   floors : AreFloors (2 ^ 48) c.gather.new.ends c.round_down.new.to
   floors = c.round_down.ensures
