@@ -18,7 +18,6 @@ use std::sync::ledger::Ledger;
 #[derive(Drop)]
 pub struct BlockRoom {
     next: Vec<u64>,
-    early: Vec<u64>,
     ends: Vec<u128>,
     stays: Vec<u128>,
 }
@@ -40,15 +39,9 @@ impl BlockRoom {
         ensures { IfOk result (λ w. w ≡ size) }
     {
         let next = vec![in alloc; 0u64; size]?;
-        let early = vec![in alloc; 0u64; size]?;
         let ends = vec![in alloc; 0u128; size]?;
         let stays = vec![in alloc; 0u128; size]?;
-        Ok(BlockRoom {
-            next,
-            early,
-            ends,
-            stays,
-        })
+        Ok(BlockRoom { next, ends, stays })
     }
 
     /// Passes the beats of a rung: `v` becomes lower bounds of the vector at their end, and `dwell` grows by lower bounds of
@@ -81,14 +74,55 @@ impl BlockRoom {
 
         ensures steps { steps.new ≤ steps.old + block_products (2 ^ rung.now.exponent) (T.products tick.now) (T.size tick.now) }
     {
-        let size = v.len();
-        let next = &mut self.next[..size];
-        let early = &mut self.early[..size];
-        let ends = &mut self.ends[..size];
-        let stays = &mut self.stays[..size];
         let block = Block { tick, rung };
-        gather(block, v, next, early, ends, stays, steps);
-        round_down(ends, v);
-        add_rounded_down(stays, dwell);
+        pass_within(
+            block,
+            &mut self.next,
+            &mut self.ends,
+            &mut self.stays,
+            v,
+            dwell,
+            steps,
+        );
     }
+}
+
+/// The block, with at least as much room as `v` needs.
+fn pass_within<T: Tick, L: Ledger>(
+    block: Block<'_, T>,
+    next: &mut [u64],
+    ends: &mut [u128],
+    stays: &mut [u128],
+    v: &mut [u64],
+    dwell: &mut [u128],
+    steps: &mut Steps<L>,
+)
+    requires next { T.size block.tick.now ≤ length next.old }
+    requires ends { T.size block.tick.now ≤ length ends.old }
+    requires stays { T.size block.tick.now ≤ length stays.old }
+    requires v { length v.old ≡ T.size block.tick.now }
+    requires dwell { length dwell.old ≡ T.size block.tick.now }
+    requires mass { IsMass v.old }
+    requires room { All (λ x. x < 2 ^ 127) dwell.old }
+    requires usable { IsUsable block.rung.now }
+
+    // by every value list, at every order from 16 on
+    ensures after { IsAfter (IsStep (T.step block.entry.tick.now)) 16 (2 ^ block.entry.rung.now.exponent) v.old v.new }
+    ensures dwelt { IsDwelt (IsStep (T.step block.entry.tick.now)) 16 (2 ^ block.entry.rung.now.exponent) v.old dwell.old dwell.new }
+
+    ensures kept { sum v.new ≤ sum v.old }
+    ensures lack { sum v.old ≤ sum v.new + block_loss (2 ^ block.entry.rung.now.exponent) (T.loss block.entry.tick.now) (T.size block.entry.tick.now) }
+    ensures grows { (k : ℕ) → k < length dwell.old → (slice_index dwell.old k ≤ slice_index dwell.new k) × (slice_index dwell.new k ≤ slice_index dwell.old k + 2 ^ block.entry.rung.now.exponent * 2 ^ 48) }
+    ensures dwell_kept { sum dwell.new ≤ sum dwell.old + 2 ^ block.entry.rung.now.exponent * sum v.old }
+    ensures dwell_lack { sum dwell.old + 2 ^ block.entry.rung.now.exponent * sum v.old ≤ sum dwell.new + block_dwell_loss (2 ^ block.entry.rung.now.exponent) (T.loss block.entry.tick.now) (T.size block.entry.tick.now) }
+
+    ensures steps { steps.new ≤ steps.old + block_products (2 ^ block.entry.rung.now.exponent) (T.products block.entry.tick.now) (T.size block.entry.tick.now) }
+{
+    let size = v.len();
+    let next = &mut next[..size];
+    let ends = &mut ends[..size];
+    let stays = &mut stays[..size];
+    gather(block, v, next, ends, stays, steps);
+    round_down(ends, v);
+    add_rounded_down(stays, dwell);
 }

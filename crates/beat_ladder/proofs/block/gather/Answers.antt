@@ -2,7 +2,7 @@ use Rattle.std.proofs.Common.{◌≡◌, ℕ, ◌+◌, ◌-◌, ◌*◌, ◌^◌
 use Rattle.std.proofs.Math.Nat.{mul-le-mul_left, mul-le-mul_right}
 use Rattle.std.proofs.lemmas.List.{get_or-replicate}
 use Rattle.std.proofs.lemmas.Grind.{get_or_default_zero}
-use Rattle.vector_laws.proofs.Masses.{sum-none, sum-constant}
+use Rattle.vector_laws.proofs.Masses.{sum-constant}
 use Rattle.vector_laws.proofs.Ticks.{ticked_more}
 use Rattle.beat_ladder.specs.Powers.{power_of}
 use Rattle.beat_ladder.specs.Losses.{IsStep}
@@ -20,22 +20,20 @@ early_ticks-requires-clause-few g c =
 early_small : (low mass sums : ℕ) → low ≤ 2 ^ 13 → mass ≤ 2 ^ 48 → sums ≤ mass * (low * 1) → sums ≤ 2 ^ 61
 early_small low mass sums few full most = omega (arith, most, mul-le-mul_left mass few, full)
 
-pub add_early-requires-clause-none : goal.add_early-requires-clause-none
-add_early-requires-clause-none g c none =
+pub weigh_early-requires-clause-none : goal.weigh_early-requires-clause-none
+weigh_early-requires-clause-none g c none =
     let most : sum c.early_ticks.new.sums ≤ sum c.args.now.now * (c.args.block.rung.now.low * 1) =
     rw (sum-constant c.args.block.rung.now.low 1) at c.early_ticks.ensures.gathered.most in
     omega (arith, rw none at most)
 
-pub add_early-requires-clause-room : goal.add_early-requires-clause-room
-add_early-requires-clause-room g c =
+pub weigh_early-requires-clause-room : goal.weigh_early-requires-clause-room
+weigh_early-requires-clause-room g c =
     let r = c.args.block.rung.now in
-    let zeros : sum c.fill-2.new.self ≡ 0 = sum-none c.fill-2.new.self
-    (λ k h. rw (c.fill-2.ensures.after (λ y e. e)) (get_or-replicate (length c.args.stays.now) k 0 0 (omega (arith, c.fill-2.ensures.len)))) in
     let low : r.low ≤ 2 ^ 13 = low_few r.exponent r.low r.numbers.items r.tails.items r.held r.tailed r.few c.requires.usable in
     let most : sum c.early_ticks.new.sums ≤ sum c.args.now.now * (r.low * 1) = rw (sum-constant r.low 1) at c.early_ticks.ensures.gathered.most in
     let early : sum c.early_ticks.new.sums ≤ 2 ^ 61 = early_small r.low (sum c.args.now.now) (sum c.early_ticks.new.sums) low c.requires.mass most in
     let flat : r.flat ≤ 2 ^ 48 = omega (arith, r.flat_is, held_mass r.exponent r.low r.numbers.items r.held) in
-    omega (arith, zeros, early, mul-le-mul_right (sum c.early_ticks.new.sums) flat)
+    omega (arith, early, mul-le-mul_right (sum c.early_ticks.new.sums) flat)
 
 pub loop-k-init : goal.loop-k-init
 loop-k-init g c =
@@ -44,7 +42,7 @@ loop-k-init g c =
     let loss : ℕ = g.T.Tick.loss c.args.block.tick.now in
     let z : r.low + 0 ≡ r.low = omega arith in
     let long : r.low * length c.early_ticks.new.sums ≡ r.low * g.T.Tick.size c.args.block.tick.now =
-    ap (λ n. r.low * n) (omega (arith, c.early_ticks.auto.sums, c.requires.early)) in
+    ap (λ n. r.low * n) (omega (arith, c.early_ticks.auto.sums, c.requires.stays)) in
     record {
       now = c.early_ticks.auto.now;
       next = c.early_ticks.auto.next;
@@ -52,10 +50,8 @@ loop-k-init g c =
       ends = rw z (gathered_zeros B loss c.args.now.now c.fill.new.self (power_of r.exponent) r.low
           (λ k h. rw (c.fill.ensures.after (λ y e. e)) (get_or-replicate (length c.args.ends.now) k 0 0 (omega (arith, c.fill.ensures.len)))) r.held.before);
       stays = rw z (stays_first B loss c.args.now.now r.exponent r.low r.numbers.items r.tails.items r.held r.tailed c.early_ticks.new.sums
-          c.fill-2.new.self c.add_early.new.stays
-          (λ k h. rw (c.fill-2.ensures.after (λ y e. e)) (get_or-replicate (length c.args.stays.now) k 0 0 (omega (arith, c.fill-2.ensures.len))))
-          (rw r.flat_is at c.add_early.ensures.added) c.early_ticks.ensures.gathered);
-      counted = omega (arith, c.early_ticks.ensures.steps, c.add_early.ensures.steps, long);
+          c.weigh_early.new.sums c.weigh_early.auto.sums (rw r.flat_is at c.weigh_early.ensures.times) c.early_ticks.ensures.gathered);
+      counted = omega (arith, c.early_ticks.ensures.steps, c.weigh_early.ensures.steps, long);
     }
 
 pub add_both-requires-clause-first_room : goal.add_both-requires-clause-first_room
