@@ -2,7 +2,6 @@
 use Rattle.std.specs.Prelude.{◌≡◌, ℕ, ◌+◌, ◌<◌, ◌≤◌, List, ◌++◌, length, map, slice_index, All}
 use Rattle.std.specs.List.Sorted.{IsPermutation}
 use Rattle.sil_model.specs.LoopValue.{LoopValue, IsValid}
-use Rattle.sil_model.specs.Budget.{lumped_events_of}
 use Rattle.sil_model.specs.Sizes.{states_of, most_states}
 use Rattle.sil_model.specs.Calendar.{beats_of}
 use Rattle.sil_model.specs.declared.parts.Subsystem.{Subsystem}
