@@ -65,8 +65,7 @@ pub fn lay_out(alloc: Global, l: &Loop, order: u8) -> Result<Planned, ValueFault
     ensures too_many_tests { (n : ℕ) → (result ≡ Err (ValueFault.Limit (TooManyTests n))) ↔ (first_limit_of l.now order ≡ Some (TooManyTests n)) }
     ensures too_many_states { (n : ℕ) → (result ≡ Err (ValueFault.Limit (TooManyStates n))) ↔ (first_limit_of l.now order ≡ Some (TooManyStates n)) }
 {
-    // The values of a loop are in their ranges.
-    let _ = l.mission();
+    l.values_are_in_range();
     let states = counted_states(l).map_err(ValueFault::Limit)?;
     let plan = match plan(alloc, l) {
         Ok(plan) => plan,

@@ -2,7 +2,7 @@
 
 ghost use Rattle.std.specs.Prelude.{◌≡◌, ℕ, ◌+◌, ◌*◌, ◌^◌, ◌<◌, ◌≤◌, length, sum, slice_index, IsTrue, IsFalse};
 ghost use Rattle.sil_model.specs.Budget.{lumped_events_of};
-ghost use Rattle.sil_model.specs.Sizes.{states_of};
+ghost use Rattle.sil_model.specs.Sizes.{states_of, most_beats};
 ghost use Rattle.vector_laws.specs.Vectors.{IsMass};
 ghost use Rattle.uniformise.specs.Beat.{beat_products};
 ghost use Rattle.place_chain.specs.Sweeps.{choice_products};
@@ -27,7 +27,7 @@ const LEAST_MASS: u64 = 16;
 /// Whether a choice of places and then so many products for each beat come to no more than the beats may take.
 fn choice_fits(chain: &Chain, of_beat: u128, beats: u64, events: u64) -> bool
     requires of_beat { of_beat ≤ 2 ^ 81 }
-    requires few { beats ≤ 1_000_000 }
+    requires few { beats ≤ most_beats }
     requires events { events ≡ lumped_events_of chain.now.of.subsystems }
     requires few_events { events ≤ 1_000 }
     ensures { IsTrue result → choice_products chain.now.of.subsystems + beats * of_beat ≤ beats * beat_products chain.now.of.subsystems 16 }
@@ -49,7 +49,7 @@ fn may_be_tried(
     beats: u64,
     events: u64,
 ) -> bool
-    requires few { beats ≤ 1_000_000 }
+    requires few { beats ≤ most_beats }
     requires events { events ≡ lumped_events_of chain.now.of.subsystems }
     requires few_events { events ≤ 1_000 }
     ensures { IsTrue result → choice_products chain.now.of.subsystems
@@ -100,7 +100,7 @@ fn loses_little(before: &[u64], after: &[u64], dwelt: &[u128], beats: u64, loss:
     requires before { sum before.now ≤ 2 ^ 48 }
     requires after { sum after.now ≤ 2 ^ 48 }
     requires dwelt { sum dwelt.now ≤ beats * 2 ^ 48 }
-    requires few { beats ≤ 1_000_000 }
+    requires few { beats ≤ most_beats }
     requires small { loss ≤ 2 ^ 67 }
     ensures { IsTrue result → LosesLittle beats loss before.now after.now dwelt.now }
 {
@@ -130,7 +130,7 @@ fn pass_over_chosen<L: Ledger>(
     requires dwell { length dwell.old ≡ states_of stretch.now.places.now.chain.of.subsystems }
     requires mass { IsMass v.old }
     requires none { (k : ℕ) → k < length dwell.old → slice_index dwell.old k ≡ 0 }
-    requires few { stretch.now.beats ≤ 1_000_000 }
+    requires few { stretch.now.beats ≤ most_beats }
     ensures blocks { blocks.new ≡ blocks.old }
     ensures passes { IsTrue result → Passes stretch.now.places.now.chain 16 (block_beat_loss stretch.now.places.now.chain.of.subsystems) stretch.now.beats v.old v.new dwell.old dwell.new }
     ensures kept { IsFalse result → v.new ≡ v.old }
@@ -178,7 +178,7 @@ pub fn pass_over_few<L: Ledger>(
     requires dwell { length dwell.old ≡ states_of chain.now.of.subsystems }
     requires mass { IsMass v.old }
     requires none { (k : ℕ) → k < length dwell.old → slice_index dwell.old k ≡ 0 }
-    requires few { beats ≤ 1_000_000 }
+    requires few { beats ≤ most_beats }
     ensures room { HasPartRoom chain.now.of room.new }
     ensures reached { room.new.reached ≡ room.old.reached }
     ensures passes { IsTrue result → Passes chain.now 16 (block_beat_loss chain.now.of.subsystems) beats v.old v.new dwell.old dwell.new }

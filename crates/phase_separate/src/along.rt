@@ -65,7 +65,7 @@ pub fn pass_along<L: Ledger>(
     ensures passes { PassesAlong chain.now (beats_over span passed) now.old.items now.new.items }
     ensures steps { steps.new ≤ steps.old + along_products chain.now.of.subsystems }
 {
-    let _ = chain.columns();
+    chain.beats_are_enough();
     let size = now.len();
     let mut stride = 1;
     for subsystem in subsystems {

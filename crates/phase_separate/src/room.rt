@@ -97,9 +97,8 @@ impl SeparateRoom {
         ensures passes { Passes phase.now.chain.now 16 (block_beat_loss phase.now.chain.now.of.subsystems) phase.now.beats v.old v.new (replicate (states_of phase.now.chain.now.of.subsystems) 0) dwell.new }
         ensures steps { (digits : ℕ) → phase.now.beats < 2 ^ digits → steps.new ≤ steps.old + separate_products phase.now.chain.now.of.subsystems digits }
     {
-        // The values of its loop are in their ranges, and its beats are enough.
-        let _ = phase.chain.columns();
         let chain = phase.chain;
+        chain.beats_are_enough();
         let beats = phase.beats;
         begin(
             chain,

@@ -47,8 +47,7 @@ fn evaluate<L: Ledger>(
     requires level { IfSome ask.now.need IsLevel }
     ensures { IfOk result (λ x. IsCalledBy true (within_limits l.now (IsReported (map (λ w. watcher_value w) watchers.old) ask.now l.now)) (outcome_of x)) }
 {
-    // The values of a loop are in their ranges.
-    let _ = l.mission();
+    l.values_are_in_range();
     let mut steps = Steps::<L>::open(blank);
     match value(alloc, l, l.order(), watchers, ask.watch, &mut steps) {
         Ok(value) => Ok(Answer {
