@@ -180,6 +180,8 @@ class Figures:
         vector = [ONE] + [0] * (n - 1)
         hours_down = entries = 0
         hour = 0
+        # Of each phase its start, its hours, the mean and the chance at its end, before the tests.
+        self.by_phase = []
         for end in loop.test_hours() + [loop.mission]:
             sums = [0] * (n + 2)
             for x, row in zip(vector, self.phase(end - hour)):
@@ -190,6 +192,8 @@ class Figures:
             vector = sums[:n]
             hours_down += sums[n] * (end - hour)
             entries += sums[n + 1]
+            down = sum(x for x, d in zip(vector, process.down) if d)
+            self.by_phase.append((hour, end - hour, Fraction(sums[n], ONE), Fraction(down, ONE)))
             if end < loop.mission:
                 was_up = self.tested([0 if d else x for x, d in zip(vector, process.down)], end)
                 was_down = self.tested([x if d else 0 for x, d in zip(vector, process.down)], end)
@@ -202,6 +206,13 @@ class Figures:
 def figures_of(loop):
     """PFDavg, and PFH per hour, as fractions that are correct to far more than 25 decimals."""
     return Figures(loop).compute()
+
+
+def phases_of(loop):
+    """Of each phase its start, its hours, the mean over it and the chance of being down at its end, before the tests."""
+    figures = Figures(loop)
+    figures.compute()
+    return figures.by_phase
 
 
 def decimal(fraction, places):

@@ -35,7 +35,7 @@ from pathlib import Path
 
 TOP = Path(__file__).resolve().parent.parent
 LOOP = TOP / "examples" / "one-channel.toml"
-COMMANDS = (("check", "loop.toml", "--series"), ("check", "loop.toml"), ("size", "loop.toml"), ("gen", "7"))
+COMMANDS = (("check", "loop.toml", "--series", "--peak", "--occupancy"), ("check", "loop.toml"), ("size", "loop.toml"), ("gen", "7"))
 MEMORY, SHELF = 6, 4
 NOT_MADE = 100
 # How many numbers one program that `rt try` builds is for.

@@ -20,7 +20,7 @@ PROGRAM = TOP / "crates/sil/out/sil"
 EXAMPLES = sorted(it.relative_to(TOP).as_posix() for it in (TOP / "examples").glob("*.toml"))
 LOOP = "examples/three-subsystems.toml"
 WORDS = [
-    *(["check", "--series", it] for it in EXAMPLES),
+    *(["check", "--series", "--peak", "--occupancy", it] for it in EXAMPLES),
     *(["size", it] for it in EXAMPLES),
     ["check", "--need", "3", LOOP],
     ["check", "--need=3", "--mode", "both", "--", LOOP],

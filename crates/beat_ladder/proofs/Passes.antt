@@ -1,9 +1,9 @@
 -- The beats of a rung passed: what is gathered tick by tick, and what the end and the dwell weigh and lose.
-use Rattle.std.proofs.Common.{◌≡◌, ℕ, suc, ◌+◌, ◌-◌, ◌*◌, ◌/◌, ◌^◌, ◌<◌, ◌≤◌, List, length, map, sum, slice_index, sym, ap, ◌∙◌, arith, add-one, refl}
+use Rattle.std.proofs.Common.{◌≡◌, ℕ, suc, ◌+◌, ◌-◌, ◌*◌, ◌/◌, ◌^◌, ◌<◌, ◌≤◌, List, length, map, replicate, sum, slice_index, sym, ap, ◌∙◌, arith}
 use Rattle.std.proofs.Math.Nat.{mul-le-mul_left, mul-le-mul_right, div-mul-le_self}
-use Rattle.std.proofs.lemmas.List.{get_or-map, length-map}
+use Rattle.std.proofs.lemmas.List.{get_or-map, get_or-replicate, length-map, length-replicate}
 use mathlib.Core.Path.{fun_ext}
-use Rattle.sil_fraction.specs.Fraction.{◌*ℚ◌, ◌≤ℚ◌, whole}
+use Rattle.sil_fraction.specs.Fraction.{◌*ℚ◌, whole}
 use Rattle.sil_fraction.specs.Sum.{total_below, sum_below}
 use Rattle.sil_fraction.proofs.Laws.{zero-add, one-mul, mul-le-left, zero-le}
 use Rattle.sil_fraction.proofs.Sums.{mul-below, sum-same, sum-mul}
@@ -12,7 +12,7 @@ use Rattle.vector_laws.specs.Laws.{AreFloors, IsSumWith}
 use Rattle.vector_laws.specs.Vectors.{weigh}
 use Rattle.vector_laws.proofs.Masses.{sum-with, sum-none, sum-zeros, place-le}
 use Rattle.vector_laws.proofs.Weighing.{weigh-with, weigh-mul, weigh-none}
-use Rattle.vector_laws.specs.Block.{tail_at, IsTicked, IsGathered, IsAfter, IsDwelt}
+use Rattle.vector_laws.specs.Block.{IsTicked, IsGathered, IsAfter, IsDwelt}
 use Rattle.vector_laws.specs.BlockLaws.{lacking, EndsLaw, DwellLaw, BlockLaw}
 use Rattle.vector_laws.proofs.Blocks.{block_law}
 use Rattle.vector_laws.proofs.Ticks.{gathered_same, gathered_more, gathered_further}
@@ -20,13 +20,21 @@ use Rattle.beat_ladder.specs.Powers.{power_of, HoldsPower, HoldTails, IsClose, m
 use Rattle.beat_ladder.specs.Losses.{block_loss, block_dwell_loss, block_products}
 use Rattle.beat_ladder.proofs.Powers.{power_stays}
 use Rattle.beat_ladder.proofs.Rungs.{held_sum, pairs_of_beats}
-use Rattle.beat_ladder.proofs.Tails.{tail, tail-early, tail-late, tail-last, tail-total, tail-within}
+use Rattle.beat_ladder.proofs.Tails.{tail, tail-early, tail-late, tail-total, tail-within}
 
 module _ (is_below : (Values ℕ → Values ℕ) → Type 0) (loss : ℕ) (v : List ℕ) where
   -- sums that are a times others
-  gathered_times : (sums more : List ℕ) (a n : ℕ) (zeros : List ℕ) → ((k : ℕ) → k < length zeros → slice_index zeros k ≡ 0) → IsSumWith a zeros sums more
+  gathered_times : (sums more : List ℕ) (a n : ℕ) → length more ≡ length sums → ((k : ℕ) → k < length sums → slice_index more k ≡ a * slice_index sums k)
       → IsGathered is_below loss v sums (λ k. 1) n → IsGathered is_below loss v more (λ k. a) n
-  gathered_times sums more a n zeros none each gathered =
+  gathered_times sums more a n same times_a gathered =
+      let zeros : List ℕ = replicate (length sums) 0 in
+      let long : length zeros ≡ length sums = length-replicate (length sums) 0 in
+      let none : (k : ℕ) → k < length zeros → slice_index zeros k ≡ 0 = λ k h. get_or-replicate (length sums) k 0 0 (rw long at h) in
+      let each : IsSumWith a zeros sums more = record {
+        more_length = same;
+        sums_length = long;
+        added = λ k h. omega (arith, times_a k h, none k (rw long h));
+      } in
       let z : sum zeros ≡ 0 = sum-none zeros none in
       let s : sum more ≡ sum zeros + a * sum sums = sum-with a zeros sums more each in
       let ones : sum_below n (λ k. a) ≡ a * sum_below n (λ k. 1) = sum-same n (λ k. a) (λ k. a * 1) (λ k _. omega arith) ∙ sum-mul n a (λ k. 1) in
@@ -56,13 +64,14 @@ module _ (is_below : (Values ℕ → Values ℕ) → Type 0) (loss : ℕ) (v : L
       }
 
   module _ (e low : ℕ) (numbers tails : List ℕ) (held : HoldsPower e low numbers) (tailed : HoldTails numbers tails) where
-    -- the dwell of the ticks before the first number
-    pub stays_first : (early zeros stays : List ℕ) → ((k : ℕ) → k < length zeros → slice_index zeros k ≡ 0) → IsSumWith (sum numbers) zeros early stays
+    -- the dwell of the ticks before the first number, times what all their tails are
+    pub stays_first : (early stays : List ℕ) → length stays ≡ length early
+        → ((k : ℕ) → k < length early → slice_index stays k ≡ sum numbers * slice_index early k)
         → IsGathered is_below loss v early (λ k. 1) low → IsGathered is_below loss v stays (tail e low numbers tails held tailed) low
-    stays_first early zeros stays none each gathered =
+    stays_first early stays same each gathered =
         gathered_same is_below loss v stays (λ k. sum numbers) (tail e low numbers tails held tailed) low
         (λ k p. sym (tail-early e low numbers tails held tailed k p))
-        (gathered_times early stays (sum numbers) low zeros none each gathered)
+        (gathered_times early stays (sum numbers) low same each gathered)
 
     -- a vector more, times the next number, and times its tail
     pub ends_more : (now sums more : List ℕ) (k w : ℕ) → k < length numbers → w ≡ slice_index numbers k → IsSumWith w sums now more

@@ -1,6 +1,6 @@
 -- Lists that hold the numbers of 2^e beats: the first, the next, their sums, and that they stay below the beats.
-use Rattle.std.proofs.Common.{◌≡◌, ℕ, suc, ◌+◌, ◌-◌, ◌*◌, ◌/◌, ◌^◌, ◌<◌, ◌≤◌, List, ◌++◌, length, drop, sum, slice_index, length-drop, refl, sym, ap, ◌∙◌, arith, inl, inr, add-one}
-use Rattle.std.specs.Prelude.{replicate, slice_range}
+use Rattle.std.proofs.Common.{◌≡◌, ℕ, suc, ◌+◌, ◌-◌, ◌*◌, ◌/◌, ◌^◌, ◌<◌, ◌≤◌, List, length, drop, sum, slice_index, length-drop, refl, sym, ap, ◌∙◌, arith, inl, inr, add-one}
+use Rattle.std.specs.Prelude.{slice_range}
 use Rattle.std.proofs.Math.Nat.{pow-le-pow_right}
 use Rattle.std.proofs.lemmas.Nat.{mul-pow}
 use Rattle.std.proofs.lemmas.Bool.{cases_lt}
@@ -10,7 +10,6 @@ use Rattle.sil_fraction.specs.Sum.{sum_below}
 use Rattle.sil_fraction.proofs.Sums.{sum-same, sum-add, sum-mul, sum-append}
 use Rattle.sil_model.specs.WeightTable.{weight_of}
 use Rattle.series_weights.proofs.Sums.{weight_zero}
-use Rattle.vector_laws.specs.Block.{StayBelow}
 use Rattle.vector_laws.proofs.Moments.{mass_within, steps_within}
 use Rattle.vector_laws.proofs.Sums.{tails-sum}
 use Rattle.vector_laws.proofs.Masses.{past, sum_of, sum-zeros}

@@ -3,7 +3,5 @@ use Rattle.std.specs.Prelude.{◌≡◌, vec_len}
 use Rattle.beat_ladder.specs.declared.room.BlockRoom.TheInside.{Inside}
 
 pub record HaveOneLength (w : Inside) : Type 0 where
-  pub next : vec_len w.next ≡ vec_len w.now
-  pub early : vec_len w.early ≡ vec_len w.now
-  pub ends : vec_len w.ends ≡ vec_len w.now
-  pub stays : vec_len w.stays ≡ vec_len w.now
+  pub ends : vec_len w.ends ≡ vec_len w.next
+  pub stays : vec_len w.stays ≡ vec_len w.next

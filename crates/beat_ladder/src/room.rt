@@ -6,7 +6,7 @@ ghost use Rattle.vector_laws.specs.Block.{IsAfter, IsDwelt};
 ghost use Rattle.beat_ladder.specs.Rungs.{IsUsable};
 ghost use Rattle.beat_ladder.specs.Losses.{IsStep, block_loss, block_dwell_loss, block_products};
 
-use crate::block::gather;
+use crate::block::{Block, gather};
 use crate::sums::{add_rounded_down, round_down};
 use crate::{Rung, Tick};
 use sil_model::Steps;
@@ -17,9 +17,7 @@ use std::sync::ledger::Ledger;
 /// Room for blocks of beats of vectors up to a size. Contracts see it as the size.
 #[derive(Drop)]
 pub struct BlockRoom {
-    now: Vec<u64>,
     next: Vec<u64>,
-    early: Vec<u64>,
     ends: Vec<u128>,
     stays: Vec<u128>,
 }
@@ -30,7 +28,7 @@ impl Model for BlockRoom {
 
     ghost Value = { ℕ };
 
-    ghost view = { λ w. vec_len w.now };
+    ghost view = { λ w. vec_len w.next };
 
     ghost invariant = { HaveOneLength };
 }
@@ -40,18 +38,10 @@ impl BlockRoom {
     pub fn new(alloc: Global, size: usize) -> Result<BlockRoom, AllocError>
         ensures { IfOk result (λ w. w ≡ size) }
     {
-        let now = vec![in alloc; 0u64; size]?;
         let next = vec![in alloc; 0u64; size]?;
-        let early = vec![in alloc; 0u64; size]?;
         let ends = vec![in alloc; 0u128; size]?;
         let stays = vec![in alloc; 0u128; size]?;
-        Ok(BlockRoom {
-            now,
-            next,
-            early,
-            ends,
-            stays,
-        })
+        Ok(BlockRoom { next, ends, stays })
     }
 
     /// Passes the beats of a rung: `v` becomes lower bounds of the vector at their end, and `dwell` grows by lower bounds of
@@ -84,12 +74,10 @@ impl BlockRoom {
 
         ensures steps { steps.new ≤ steps.old + block_products (2 ^ rung.now.exponent) (T.products tick.now) (T.size tick.now) }
     {
+        let block = Block { tick, rung };
         pass_within(
-            tick,
-            rung,
-            &mut self.now,
+            block,
             &mut self.next,
-            &mut self.early,
             &mut self.ends,
             &mut self.stays,
             v,
@@ -100,49 +88,41 @@ impl BlockRoom {
 }
 
 /// The block, with at least as much room as `v` needs.
-#[allow(clippy::too_many_arguments)]
 fn pass_within<T: Tick, L: Ledger>(
-    tick: &T,
-    rung: &Rung,
-    now: &mut [u64],
+    block: Block<'_, T>,
     next: &mut [u64],
-    early: &mut [u64],
     ends: &mut [u128],
     stays: &mut [u128],
     v: &mut [u64],
     dwell: &mut [u128],
     steps: &mut Steps<L>,
 )
-    requires now { T.size tick.now ≤ length now.old }
-    requires next { T.size tick.now ≤ length next.old }
-    requires early { T.size tick.now ≤ length early.old }
-    requires ends { T.size tick.now ≤ length ends.old }
-    requires stays { T.size tick.now ≤ length stays.old }
-    requires v { length v.old ≡ T.size tick.now }
-    requires dwell { length dwell.old ≡ T.size tick.now }
+    requires next { T.size block.tick.now ≤ length next.old }
+    requires ends { T.size block.tick.now ≤ length ends.old }
+    requires stays { T.size block.tick.now ≤ length stays.old }
+    requires v { length v.old ≡ T.size block.tick.now }
+    requires dwell { length dwell.old ≡ T.size block.tick.now }
     requires mass { IsMass v.old }
     requires room { All (λ x. x < 2 ^ 127) dwell.old }
-    requires usable { IsUsable rung.now }
+    requires usable { IsUsable block.rung.now }
+
     // by every value list, at every order from 16 on
-    ensures after { IsAfter (IsStep (T.step tick.now)) 16 (2 ^ rung.now.exponent) v.old v.new }
-    ensures dwelt { IsDwelt (IsStep (T.step tick.now)) 16 (2 ^ rung.now.exponent) v.old dwell.old dwell.new }
+    ensures after { IsAfter (IsStep (T.step block.entry.tick.now)) 16 (2 ^ block.entry.rung.now.exponent) v.old v.new }
+    ensures dwelt { IsDwelt (IsStep (T.step block.entry.tick.now)) 16 (2 ^ block.entry.rung.now.exponent) v.old dwell.old dwell.new }
 
     ensures kept { sum v.new ≤ sum v.old }
-    ensures lack { sum v.old ≤ sum v.new + block_loss (2 ^ rung.now.exponent) (T.loss tick.now) (T.size tick.now) }
-    ensures grows { (k : ℕ) → k < length dwell.old → (slice_index dwell.old k ≤ slice_index dwell.new k) × (slice_index dwell.new k ≤ slice_index dwell.old k + 2 ^ rung.now.exponent * 2 ^ 48) }
-    ensures dwell_kept { sum dwell.new ≤ sum dwell.old + 2 ^ rung.now.exponent * sum v.old }
-    ensures dwell_lack { sum dwell.old + 2 ^ rung.now.exponent * sum v.old ≤ sum dwell.new + block_dwell_loss (2 ^ rung.now.exponent) (T.loss tick.now) (T.size tick.now) }
+    ensures lack { sum v.old ≤ sum v.new + block_loss (2 ^ block.entry.rung.now.exponent) (T.loss block.entry.tick.now) (T.size block.entry.tick.now) }
+    ensures grows { (k : ℕ) → k < length dwell.old → (slice_index dwell.old k ≤ slice_index dwell.new k) × (slice_index dwell.new k ≤ slice_index dwell.old k + 2 ^ block.entry.rung.now.exponent * 2 ^ 48) }
+    ensures dwell_kept { sum dwell.new ≤ sum dwell.old + 2 ^ block.entry.rung.now.exponent * sum v.old }
+    ensures dwell_lack { sum dwell.old + 2 ^ block.entry.rung.now.exponent * sum v.old ≤ sum dwell.new + block_dwell_loss (2 ^ block.entry.rung.now.exponent) (T.loss block.entry.tick.now) (T.size block.entry.tick.now) }
 
-    ensures steps { steps.new ≤ steps.old + block_products (2 ^ rung.now.exponent) (T.products tick.now) (T.size tick.now) }
+    ensures steps { steps.new ≤ steps.old + block_products (2 ^ block.entry.rung.now.exponent) (T.products block.entry.tick.now) (T.size block.entry.tick.now) }
 {
     let size = v.len();
-    let now = &mut now[..size];
     let next = &mut next[..size];
-    let early = &mut early[..size];
     let ends = &mut ends[..size];
     let stays = &mut stays[..size];
-    now.copy_from_slice(v);
-    gather(tick, rung, now, next, early, ends, stays, steps);
+    gather(block, v, next, ends, stays, steps);
     round_down(ends, v);
     add_rounded_down(stays, dwell);
 }

@@ -7,13 +7,25 @@ use sil_model::Steps;
 use std::sync::ledger::Ledger;
 
 /// Adds a vector to the sums.
-pub fn add_all(sums: &mut [u64], vector: &[u64])
+pub fn add_all(sums: &mut [u128], vector: &[u64])
     requires size { length sums.old ≡ length vector.now }
-    requires room { sum sums.old + sum vector.now < 2 ^ 64 }
+    requires room { sum sums.old + sum vector.now < 2 ^ 128 }
     ensures { IsSumWith 1 sums.old vector.now sums.new }
 {
     for k in 0..vector.len() {
-        sums[k] += vector[k];
+        sums[k] += u128::from(vector[k]);
+    }
+}
+
+/// Multiplies each of the sums.
+pub fn multiply_all<L: Ledger>(sums: &mut [u128], weight: u64, steps: &mut Steps<L>)
+    requires room { weight * sum sums.old < 2 ^ 128 }
+    ensures times { (k : ℕ) → k < length sums.old → slice_index sums.new k ≡ weight * slice_index sums.old k }
+    ensures steps { steps.new ≡ steps.old + length sums.old }
+{
+    for k in 0..sums.len() {
+        sums[k] *= u128::from(weight);
+        steps.count_one();
     }
 }
 

@@ -33,8 +33,7 @@ pub fn share_at(l: &Loop, subsystem: usize, counts: &[u8]) -> Share
     requires counts { length counts.now ≡ CHANNEL_STATES * length (groups_of l.now.subsystems) }
     ensures { result ≡ share_at l.now.subsystems counts.now subsystem }
 {
-    // The values of a loop are in their ranges.
-    let _ = l.mission();
+    l.values_are_in_range();
     let mut first = 0;
     for i in 0..subsystem {
         first += l.subsystem(i).groups();

@@ -8,7 +8,8 @@ use Rattle.sil_model.specs.declared.answers.Band.TheVariants.{Beyond4, Sil4, Sil
 use Rattle.sil_text.specs.Figure.{decimal18, digits_behind, digit_at}
 use Rattle.loop_print.proofs.Lengths.{length-decimal, two}
 use Rattle.sil_report.specs.Texts.{count_line, counts_text}
-use Rattle.sil_report.specs.Intervals.{band_text_of, interval_line}
+use Rattle.sil_bands.specs.Texts.{band_text_of}
+use Rattle.sil_report.specs.Intervals.{interval_line}
 use Rattle.sil_report.specs.FixedBy.{Interval, Counts}
 use Rattle.sil_report.specs.Reports.{report_lines}
 

@@ -1,5 +1,5 @@
 -- `check loop.toml` over a shelf that has a sound file of this name calls for its report alone.
-use Rattle.std.proofs.Common.{◌≡◌, ◌∙◌, ℕ, ◌≤◌, ◌⊎◌, Bool, true, List, [], ◌∷◌, ◌++◌, length, Option, Some, None, IsSome, inl, inr, if◌then◌else◌, refl, sym, ap, subst, arith}
+use Rattle.std.proofs.Common.{◌≡◌, ◌∙◌, ℕ, ◌≤◌, ◌⊎◌, Bool, true, List, [], ◌∷◌, ◌++◌, length, map, Option, Some, None, IsSome, inl, inr, if◌then◌else◌, refl, sym, ap, subst, arith}
 use Rattle.std.specs.Prelude.{codes, option_map}
 use Rattle.std.proofs.lemmas.List.{append-nil}
 use Rattle.sil_model.specs.LoopValue.{LoopValue}
@@ -7,10 +7,13 @@ use Rattle.loop_file.specs.LoopFile.{IsLoopOf, HasFault}
 use Rattle.sil_io.specs.Handed.{Handed}
 use Rattle.verb_table.specs.Table.{verb_table, check_row}
 use Rattle.verb_table.specs.declared.verb.Verb.TheVariants.{Check}
-use Rattle.sil_watch.specs.Watching.{WatcherValue}
+use Rattle.sil_watch.specs.Watching.{fed_of}
 use Rattle.sil_watch.specs.Kinds.{no_kinds}
 use Rattle.sil_watch.specs.Lines.{lines_of_all, lines_of_asked}
+use Rattle.sil_watch.specs.Occupancy.{no_hours, occupancy_value}
+use Rattle.sil_watch.specs.Peak.{peak_value}
 use Rattle.sil_watch.specs.Series.{series_value}
+use Rattle.sil_watch.specs.declared.record.PhaseRecord.{PhaseRecord}
 use Rattle.sil_watch.proofs.Folds.{fed-other}
 use Rattle.sil_report.specs.Texts.{limit_fault_line_of}
 use Rattle.sil_words.specs.Language.{Asks, IsCall, Reading, plain}
@@ -64,12 +67,19 @@ no_lines : lines_of_all no_kinds program_watchers ≡ []
 unfolding lines_of_asked
 no_lines = refl
 
+-- and each watcher is as before
+unasked : (rs : List PhaseRecord) → map (fed_of no_kinds rs) program_watchers ≡ program_watchers
+unasked rs =
+    let series = fed-other no_kinds rs (series_value []) refl in
+    let peak = fed-other no_kinds rs (peak_value None) refl in
+    let occupancy = fed-other no_kinds rs (occupancy_value no_hours) refl in
+    cc (series, peak, occupancy)
+
 -- a report for which no watcher is asked is the report alone
 alone : (l : LoopValue) (shown : Bool) (o : Outcome) → IsReported program_watchers asked l shown o.text
     → o.status ≡ (if shown then Done else NotShown) → IsShortReport l o
 alone l shown o r status =
-    let after : r.told.after ≡ program_watchers
-    = r.told.fed.fed ∙ ap (λ (w : WatcherValue). w ∷ []) (fed-other no_kinds r.told.fed.records (series_value []) refl) in
+    let after : r.told.after ≡ program_watchers = r.told.fed.fed ∙ unasked r.told.fed.records in
     let lines : r.lines ≡ [] = r.told.printed ∙ ap (lines_of_all no_kinds) after ∙ no_lines in
     let text : o.text ≡ r.front = r.printed ∙ ap (λ xs. r.front ++ xs) lines ∙ append-nil r.front in
     record {

@@ -110,3 +110,10 @@ pub product_small : (n : ℕ) (x y : ℕ → ℕ) → n ≤ MOST_ROWS → ((k : 
 product_small n x y few h g =
     let each : sum_below n (λ k. x k * y k) ≤ sum_below n (λ k. 2 ^ 48 * 2 ^ 68) = sum-le n _ _ (λ k p. mul-le (x k) (y k) (2 ^ 48) (2 ^ 68) (h k p) (g k p)) in
     omega (arith, each, sum-constant n (2 ^ 48 * 2 ^ 68), div-mul-le_self (sum_below n (λ k. x k * y k)) (2 ^ 48))
+
+-- the same where the second factors are at most 1 too
+pub product_within : (n : ℕ) (x y : ℕ → ℕ) → n ≤ MOST_ROWS → ((k : ℕ) → k < n → x k ≤ 2 ^ 48) → ((k : ℕ) → k < n → y k ≤ 2 ^ 48)
+    → sum_below n (λ k. x k * y k) / 2 ^ 48 ≤ 2 ^ 54
+product_within n x y few h g =
+    let each : sum_below n (λ k. x k * y k) ≤ sum_below n (λ k. 2 ^ 48 * 2 ^ 48) = sum-le n _ _ (λ k p. mul-le (x k) (y k) (2 ^ 48) (2 ^ 48) (h k p) (g k p)) in
+    omega (arith, each, sum-constant n (2 ^ 48 * 2 ^ 48), div-mul-le_self (sum_below n (λ k. x k * y k)) (2 ^ 48))

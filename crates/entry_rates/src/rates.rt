@@ -75,8 +75,7 @@ pub fn entry_rates(
     ensures rates { IfOk result (λ v. (i : ℕ) → i < states_of l.now.subsystems → ratio (slice_index v.items i) (10 ^ 18) ≡ payoff_list l.now.subsystems Entry i) }
     ensures within { IfOk result (λ v. (i : ℕ) → slice_index v.items i ≤ failure_rate_of l.now.subsystems) }
 {
-    // The values of a loop are in their ranges.
-    let _ = l.mission();
+    l.values_are_in_range();
     let mut counts = vec![in alloc; 0u8; CHANNEL_STATES * l.groups()]?;
     let mut after = vec![in alloc; 0u8; CHANNEL_STATES * l.groups()]?;
     let mut rates = Vec::with_capacity(alloc, space.size())?;

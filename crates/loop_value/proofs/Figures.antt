@@ -22,7 +22,9 @@ use Rattle.mission_laws.specs.Missions.{HasCounted, AreMeans, pfd_lower, pfd_upp
 use Rattle.mission_laws.proofs.Ends.{pfd_between, pfh_between}
 use Rattle.mission_laws.proofs.Widths.{means-mass, pfd-width, pfh-width}
 use Rattle.loop_value.specs.Ends.{sum_down, sum_up, entries_of}
-use Rattle.loop_value.specs.Mission.{greatest_of}
+use Rattle.loop_value.specs.Mission.{IsReady, greatest_of}
+use Rattle.loop_value.specs.declared.preparing.Prepared.{Prepared}
+use Rattle.loop_value.proofs.Places.{sides_all}
 
 -- a number counts where the loop is down, or where it is up
 counts_down : (up : Bool) (x : ℕ) → whole x *ℚ one_if (not up) ≡ whole (if up then 0 else x)
@@ -64,36 +66,49 @@ module _ (us : List Subsystem) (means : List ℕ) (size : length means ≡ state
 orders : (order n : ℕ) → 16 ≤ order → order ≤ n → suc (n - 1) ≡ n
 orders order n o h = omega arith
 
-module _ (l : LoopValue) (valid : IsValid l) (order : ℕ) (least_order : 16 ≤ order) (up : List Bool) (rates dwell means : List ℕ) (least most : ℕ)
-    (counted : (n : ℕ) → order ≤ n → HasCounted l (greatest_of l) n dwell least (length (test_hours_of l) * 2 ^ 48 - most))
-    (lost : HasLostInAll l order dwell least most) (few : most ≤ length (test_hours_of l) * 2 ^ 48)
-    (shared : AreMeans l.mission dwell means) (size : length dwell ≡ states_of l.subsystems)
-    (ups : (i : ℕ) (d : Bool) → i < states_of l.subsystems → get_or up i d ≡ is_up_of l.subsystems (state_numbered l.subsystems i))
-    (are : (i : ℕ) → i < states_of l.subsystems → ratio (get_or rates i 0) (10 ^ 18) ≡ payoff_list l.subsystems Entry i) where
+-- a mission that is over, and the means over it
+module _ (l : LoopValue) (valid : IsValid l) (order : ℕ) (least_order : 16 ≤ order) (m : Prepared) (ready : IsReady l m)
+    (counted : (n : ℕ) → order ≤ n → HasCounted l (greatest_of l) n m.dwell.items m.passages.least (length (test_hours_of l) * 2 ^ 48 - m.passages.most))
+    (lost : HasLostInAll l order m.dwell.items m.passages.least m.passages.most) (few : m.passages.most ≤ length (test_hours_of l) * 2 ^ 48)
+    (means : List ℕ) (shared : AreMeans l.mission m.dwell.items means) where
+  abbrev down : ℕ
+  down = sum_down m.up.items means
+
+  abbrev above : ℕ
+  above = sum_up m.up.items means
+
+  abbrev entries : ℕ
+  entries = entries_of m.rates.items means
+
+  abbrev stays : ℕ
+  stays = length (test_hours_of l) * 2 ^ 48 - m.passages.most
+
   pub mass : sum means ≤ 2 ^ 48
-  mass = means-mass l valid order dwell means least most lost shared size
+  mass = means-mass l valid order m.dwell.items means m.passages.least m.passages.most lost shared ready.dwell
 
   as_many : length means ≡ states_of l.subsystems
-  as_many = shared.as_many ∙ size
+  as_many = shared.as_many ∙ ready.dwell
 
-  module _ (all : sum_down up means + sum_up up means ≡ sum means) where
-    pub pfd_inside : (N : ℕ) → order ≤ N → Contains18 (pfd_lower (sum_down up means)) (pfd_upper (sum_up up means)) (pfd_of N l)
-    pfd_inside N o =
-        let e : suc (N - 1) ≡ N = orders order N least_order o in
-        rw e at (pfd_between l valid (N - 1) (greatest_of l) dwell means least (length (test_hours_of l) * 2 ^ 48 - most) (rw (← e) at (counted N o)) shared
-        (sum_down up means) (sum_up up means) (weighs_down l.subsystems means as_many up ups) (weighs_up l.subsystems means as_many up ups) (omega (arith, all, mass)))
+  all : down + above ≡ sum means
+  all = sides_all m.up.items means
 
-    pub pfd_narrow : pfd_upper (sum_up up means) ≤ pfd_lower (sum_down up means) + pfd_width_of l order
-    pfd_narrow = pfd-width l valid order dwell means least most lost shared size (sum_down up means) (sum_up up means) all
+  pub pfd_inside : (N : ℕ) → order ≤ N → Contains18 (pfd_lower down) (pfd_upper above) (pfd_of N l)
+  pfd_inside N o =
+      let e : suc (N - 1) ≡ N = orders order N least_order o in
+      rw e at (pfd_between l valid (N - 1) (greatest_of l) m.dwell.items means m.passages.least stays (rw (← e) at (counted N o)) shared
+      down above (weighs_down l.subsystems means as_many m.up.items ready.up) (weighs_up l.subsystems means as_many m.up.items ready.up) (omega (arith, all, mass)))
+
+  pub pfd_narrow : pfd_upper above ≤ pfd_lower down + pfd_width_of l order
+  pfd_narrow = pfd-width l valid order m.dwell.items means m.passages.least m.passages.most lost shared ready.dwell down above all
 
   module _ (lack : ℕ) (is_lack : sum means + lack ≡ 2 ^ 48) where
     pub pfh_inside : (N : ℕ) → order ≤ N
-        → Contains18 (pfh_lower l.mission (entries_of rates means) least) (pfh_upper l.mission (entries_of rates means) (failure_rate_of l.subsystems) lack most) (pfh_of N l)
+        → Contains18 (pfh_lower l.mission entries m.passages.least) (pfh_upper l.mission entries (failure_rate_of l.subsystems) lack m.passages.most) (pfh_of N l)
     pfh_inside N o =
         let e : suc (N - 1) ≡ N = orders order N least_order o in
-        rw e at (pfh_between l valid (N - 1) (greatest_of l) dwell means least (length (test_hours_of l) * 2 ^ 48 - most) (rw (← e) at (counted N o)) shared
-        (entries_of rates means) (weighs_entries l.subsystems means as_many rates are) (failure_rate_of l.subsystems) lack most refl
+        rw e at (pfh_between l valid (N - 1) (greatest_of l) m.dwell.items means m.passages.least stays (rw (← e) at (counted N o)) shared
+        entries (weighs_entries l.subsystems means as_many m.rates.items ready.rates) (failure_rate_of l.subsystems) lack m.passages.most refl
         ((entry_laws l).numbers valid) is_lack (omega (arith, few)))
 
-    pub pfh_narrow : pfh_upper l.mission (entries_of rates means) (failure_rate_of l.subsystems) lack most ≤ pfh_lower l.mission (entries_of rates means) least + pfh_width_of l order
-    pfh_narrow = pfh-width l valid order dwell means least most lost shared size (entries_of rates means) lack is_lack
+    pub pfh_narrow : pfh_upper l.mission entries (failure_rate_of l.subsystems) lack m.passages.most ≤ pfh_lower l.mission entries m.passages.least + pfh_width_of l order
+    pfh_narrow = pfh-width l valid order m.dwell.items means m.passages.least m.passages.most lost shared ready.dwell entries lack is_lack

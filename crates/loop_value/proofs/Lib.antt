@@ -1,7 +1,7 @@
 pub mod Limits
 pub mod Beats
 pub mod Rooms
-pub mod Sides
+pub mod Places
 pub mod GroupTestCounts
 pub mod Reached
 pub mod Printable

@@ -1,9 +1,8 @@
 -- The record of a phase, by its vectors, and records that are fed phase by phase.
 use Rattle.std.proofs.Common.{◌≡◌, ℕ, suc, ◌+◌, ◌-◌, ◌*◌, ◌^◌, ◌<◌, ◌≤◌, List, [], ◌∷◌, ◌++◌, length, sum, get_or, map, take, drop, refl, sym, ap, ◌∙◌, arith, zero-add, add-zero}
-use Rattle.std.specs.Prelude.{Bool, false, if◌then◌else◌}
+use Rattle.std.specs.Prelude.{Bool}
 use Rattle.std.proofs.Math.Nat.{mul-le-mul_right}
 use Rattle.std.proofs.lemmas.List.{take-map, drop-map, length-append}
-use Rattle.sil_fraction.proofs.Sums.{sum-add, sum-same}
 use Rattle.interval_fixed.proofs.Rounding.{ceiling-le, ceiling-le-ceiling, floor-le-ceiling}
 use Rattle.sil_model.specs.Calendar.{phases_of}
 use Rattle.sil_model.specs.Figures.{no_phase}
@@ -12,7 +11,6 @@ use Rattle.sil_model.specs.Sizes.{states_of}
 use Rattle.sil_model.specs.State.{is_up_of}
 use Rattle.sil_model.specs.declared.answers.Decimal18.{Decimal18}
 use Rattle.lumped_laws.specs.StateOfCounts.{state_numbered}
-use Rattle.vector_laws.proofs.Masses.{sum_of}
 use Rattle.mission_laws.specs.Missions.{pfd_lower, pfd_upper}
 use Rattle.mission_laws.specs.PhaseLaws.{HasPassed, HasSides, PassesBeats}
 use Rattle.mission_laws.proofs.Arrived.{arrival_laws}
@@ -25,13 +23,7 @@ use Rattle.loop_value.specs.Ends.{sum_down, sum_up}
 use Rattle.loop_value.specs.Mission.{HasReached}
 use Rattle.loop_value.specs.Records.{IsRecordOf, AreRecordsFrom, HasFed, HasFedInPart, HasFedPhase, HasFedPhaseInPart}
 use Rattle.loop_value.proofs.Figures.{weighs_down, weighs_up}
-use Rattle.loop_value.proofs.Sides.{one_side}
-
--- what is down and what is up come to all
-pub sides_all : (up : List Bool) (v : List ℕ) → sum_down up v + sum_up up v ≡ sum v
-sides_all up v =
-    sym (sum-add (length v) (λ i. if get_or up i false then 0 else get_or v i 0) (λ i. if get_or up i false then get_or v i 0 else 0))
-    ∙ sum-same (length v) _ (λ i. get_or v i 0) (λ i h. one_side (get_or up i false) (get_or v i 0)) ∙ sym (sum_of v)
+use Rattle.loop_value.proofs.Places.{sides_all}
 
 module _ (up : List Bool) (v : List ℕ) (mass : sum v ≤ 2 ^ 48) where
   ordered : pfd_lower (sum_down up v) ≤ pfd_upper (sum_up up v)

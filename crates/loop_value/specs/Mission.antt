@@ -1,9 +1,9 @@
 -- What the computation of a loop keeps from phase to phase.
-use Rattle.std.specs.Prelude.{◌≡◌, ℕ, ◌+◌, ◌-◌, ◌*◌, ◌^◌, ◌≤◌, ◌<◌, Bool, List, Option, Some, None, length, map, slice_index, slice_index_or}
+use Rattle.std.specs.Prelude.{◌≡◌, ℕ, ◌+◌, ◌-◌, ◌*◌, ◌^◌, ◌≤◌, ◌<◌, Bool, List, length, map, slice_index, slice_index_or}
 use Rattle.sil_fraction.specs.Fraction.{Fraction, ratio}
 use Rattle.sil_model.specs.Budget.{failure_rate_of, group_tests_in}
 use Rattle.sil_model.specs.Calendar.{beats_of, phases_of, test_hours_of}
-use Rattle.sil_model.specs.LoopValue.{LoopValue, IsValid, IsWithin}
+use Rattle.sil_model.specs.LoopValue.{LoopValue, IsValid}
 use Rattle.sil_model.specs.Sizes.{states_of}
 use Rattle.sil_model.specs.Figures.{no_phase}
 use Rattle.sil_model.specs.declared.parts.Subsystem.{Subsystem}

@@ -1,9 +1,9 @@
 //! The ends of PFDavg and of PFH, by the dwell of the mission.
 
-ghost use Rattle.std.specs.Prelude.{◌≡◌, ℕ, ◌+◌, ◌-◌, ◌*◌, ◌/◌, ◌^◌, ◌<◌, ◌≤◌, Bool, length, sum, slice_index, if◌then◌else◌};
+ghost use Rattle.std.specs.Prelude.{◌≡◌, ℕ, ◌+◌, ◌*◌, ◌^◌, ◌<◌, ◌≤◌, length, sum, slice_index};
 ghost use Rattle.sil_model.specs.Sizes.{most_states};
 ghost use Rattle.mission_laws.specs.Missions.{AreMeans, pfh_lower, pfh_upper};
-ghost use Rattle.loop_value.specs.Ends.{sum_down, sum_up, entries_of};
+ghost use Rattle.loop_value.specs.Ends.{entries_of};
 
 use crate::mission::Passages;
 use interval_fixed::{Dot, ONE};
@@ -21,31 +21,6 @@ pub fn divide(dwell: &mut [u128], hours: u32)
     for i in 0..dwell.len() {
         dwell[i] /= u128::from(hours);
     }
-}
-
-/// How much of the means is where the loop is down, and how much where it is up.
-pub fn sides(means: &[u128], up: &[bool]) -> (u128, u128)
-    requires length { length up.now ≡ length means.now }
-    requires mass { sum means.now ≤ 2 ^ 48 }
-    ensures down { result.0 ≡ sum_down up.now means.now }
-    ensures up { result.1 ≡ sum_up up.now means.now }
-    ensures all { result.0 + result.1 ≡ sum means.now }
-    ensures small { result.0 + result.1 ≤ 2 ^ 48 }
-{
-    let mut down = 0;
-    let mut above = 0;
-    for i in 0..means.len() {
-        down += counted(!up[i], means[i]);
-        above += counted(up[i], means[i]);
-    }
-    (down, above)
-}
-
-/// The number, where it counts.
-fn counted(counts: bool, x: u128) -> u128
-    ensures { result ≡ (if counts then x else 0) }
-{
-    if counts { x } else { 0 }
 }
 
 /// The entries over the mission: each mean times the rate at which the loop goes down there, and `more` besides.

@@ -1,6 +1,6 @@
 //! The figures of a loop.
 
-ghost use Rattle.std.specs.Prelude.{◌≡◌, ℕ, ◌+◌, ◌*◌, ◌^◌, ◌≤◌, ◌<◌, ◌↔◌, None, Some, length, map, IfOk, OnOk, OnErr};
+ghost use Rattle.std.specs.Prelude.{◌≡◌, ℕ, ◌+◌, ◌≤◌, ◌↔◌, None, Some, length, map, IfOk, OnOk, OnErr};
 ghost use Rattle.sil_model.specs.Budget.{pfd_width_of, pfh_width_of};
 ghost use Rattle.sil_model.specs.Calendar.{phases_of};
 ghost use Rattle.sil_model.specs.Figures.{pfd_of, pfh_of, Contains18};
@@ -12,14 +12,15 @@ ghost use Rattle.loop_value.specs.Mission.{IsReady, IsPlanOf, StandsAt};
 ghost use Rattle.loop_value.specs.Records.{HasFed, HasFedInPart};
 ghost use Rattle.loop_value.specs.Sizes.{sizes_of, value_products, HaveRoom, value_products_by_powers};
 
-use crate::ends::{divide, pfh_interval, sides};
+use crate::ends::{divide, pfh_interval};
 use crate::measuring::{Planned, ValueFault, lay_out};
 use crate::mission::pass_mission;
 use crate::preparing::{Prepared, prepare};
+use crate::sides::sides_of_means;
 use entry_rates::failure_rate;
-use interval_fixed::{Interval, ONE};
+use interval_fixed::ONE;
 use sil_model::{Decimal18, LimitFault, Loop, Steps, Value};
-use sil_watch::Watcher;
+use sil_watch::{WatchSet, Watcher};
 use std::alloc::{AllocError, Global};
 use std::sync::ledger::Ledger;
 use test_calendar::Plan;
@@ -58,7 +59,7 @@ pub fn value<L: Ledger>(
     ensures too_many_states { (n : ℕ) → (result ≡ Err (ValueFault.Limit (TooManyStates n))) ↔ (first_limit_of l.now order ≡ Some (TooManyStates n)) }
 
     ensures products { OnOk result (steps.new ≤ steps.old + value_products l.now order) }
-    ensures by_powers { OnOk result (states_of l.now.subsystems ≤ most_powered_states → (digits : ℕ → ℕ) → HaveRoom digits
+    ensures by_powers { OnOk result (states_of l.now.subsystems ≤ 64 → (digits : ℕ → ℕ) → HaveRoom digits
         → steps.new ≤ steps.old + value_products_by_powers l.now order digits) }
 
     // one list of records, one of each phase
@@ -156,10 +157,10 @@ fn evaluate<L: Ledger>(
     pass_mission(m, l, plan, feed, asked, steps)?;
     divide(m.dwell.as_mut_slice(), l.mission());
     let means = m.dwell.as_slice();
-    let (down, above) = sides(means, m.up.as_slice());
-    let lack = ONE - down - above;
+    let sides = sides_of_means(means, m.up.as_slice());
+    let lack = ONE - sides.down - sides.up;
     Ok(Figures {
-        pfd: Interval::from_parts(down, above).to_decimal18(),
+        pfd: sides.chance_down(),
         pfh: pfh_interval(
             means,
             m.rates.as_slice(),

@@ -6,6 +6,7 @@ mod evaluating;
 mod measuring;
 mod mission;
 mod preparing;
+mod sides;
 mod telling;
 
 pub use evaluating::value;

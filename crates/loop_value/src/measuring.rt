@@ -1,15 +1,15 @@
 //! The sizes of a loop.
 
-ghost use Rattle.std.specs.Prelude.{◌≡◌, ℕ, ◌<◌, ◌≤◌, ◌↔◌, Some, None, IfOk, OnOk};
+ghost use Rattle.std.specs.Prelude.{◌≡◌, ℕ, ◌≤◌, ◌↔◌, Some, None, IfOk, OnOk};
 ghost use Rattle.sil_model.specs.Calendar.{phases_of};
-ghost use Rattle.sil_model.specs.Sizes.{all_beats_of, channel_tests_of, states_of, most_states, most_beats, first_limit_of};
+ghost use Rattle.sil_model.specs.Sizes.{all_beats_of, channel_tests_of, states_of, most_states, most_states_of, most_beats, first_limit_of};
 ghost use Rattle.sil_model.specs.declared.answers.LimitFault.{LimitFault};
 ghost use Rattle.sil_model.specs.declared.answers.LimitFault.TheVariants.{TooManyTests, TooManyStates};
 ghost use Rattle.loop_value.specs.Mission.{IsPlanOf};
 ghost use Rattle.loop_value.specs.Sizes.{sizes_of};
 
 use lumping::state_count;
-use sil_model::{LimitFault, Loop, MOST_BEATS, MOST_STATES, MOST_TESTS, MOST_WORK, Sizes};
+use sil_model::{LimitFault, Loop, MOST_BEATS, MOST_TESTS, Sizes};
 use std::alloc::{AllocError, Global};
 use test_calendar::{Plan, PlanFault, beats_of, channel_tests, plan};
 use thiserror::Error;
@@ -65,8 +65,7 @@ pub fn lay_out(alloc: Global, l: &Loop, order: u8) -> Result<Planned, ValueFault
     ensures too_many_tests { (n : ℕ) → (result ≡ Err (ValueFault.Limit (TooManyTests n))) ↔ (first_limit_of l.now order ≡ Some (TooManyTests n)) }
     ensures too_many_states { (n : ℕ) → (result ≡ Err (ValueFault.Limit (TooManyStates n))) ↔ (first_limit_of l.now order ≡ Some (TooManyStates n)) }
 {
-    // The values of a loop are in their ranges.
-    let _ = l.mission();
+    l.values_are_in_range();
     let states = counted_states(l).map_err(ValueFault::Limit)?;
     let plan = match plan(alloc, l) {
         Ok(plan) => plan,
@@ -81,7 +80,8 @@ pub fn lay_out(alloc: Global, l: &Loop, order: u8) -> Result<Planned, ValueFault
 fn counted_states(l: &Loop) -> Result<u64, LimitFault>
     ensures states { IfOk result (λ n. n ≡ states_of l.now.subsystems) }
     ensures few_tests { OnOk result (channel_tests_of l.now ≤ MOST_TESTS) }
-    ensures few_states { OnOk result (states_of l.now.subsystems ≤ MOST_STATES) }
+    ensures few_states { OnOk result (states_of l.now.subsystems ≤ most_states_of l.now) }
+    ensures room { OnOk result (states_of l.now.subsystems ≤ most_states) }
     ensures first { (f : LimitFault) (order : ℕ) → result ≡ Err f → first_limit_of l.now order ≡ Some f }
 {
     let tests = channel_tests(l);
@@ -89,7 +89,7 @@ fn counted_states(l: &Loop) -> Result<u64, LimitFault>
         return Err(LimitFault::TooManyTests(tests));
     }
     let states = state_count(l);
-    if states > MOST_STATES {
+    if states > l.most_states() {
         return Err(LimitFault::TooManyStates(states));
     }
     Ok(states as u64)
@@ -100,7 +100,8 @@ fn sizes_by_plan(l: &Loop, plan: &Plan, states: u64, order: u8) -> Result<Sizes,
     requires phases { plan.now.phases ≡ phases_of l.now }
     requires states { states ≡ states_of l.now.subsystems }
     requires few_tests { channel_tests_of l.now ≤ MOST_TESTS }
-    requires few_states { states_of l.now.subsystems ≤ MOST_STATES }
+    requires few_states { states_of l.now.subsystems ≤ most_states_of l.now }
+    requires room { states_of l.now.subsystems ≤ most_states }
     ensures sizes { IfOk result (λ s. s ≡ sizes_of l.now order) }
     ensures few_beats { OnOk result (all_beats_of l.now ≤ most_beats) }
     ensures within { OnOk result (first_limit_of l.now order ≡ None) }
@@ -111,7 +112,7 @@ fn sizes_by_plan(l: &Loop, plan: &Plan, states: u64, order: u8) -> Result<Sizes,
         return Err(LimitFault::TooManyBeats(beats));
     }
     let work = beats * u64::from(order) * states;
-    if work > MOST_WORK {
+    if work > l.most_work() {
         return Err(LimitFault::TooMuchWork(work));
     }
     Ok(Sizes {

@@ -87,9 +87,8 @@ fn pass_to_next<L: Ledger>(
 {
     pass_phase(m, l, plan.hours(p), steps);
     tell(m, l, plan, p, feed, asked)?;
-    let passed = m
-        .tests
-        .apply(plan.tests_after(p), m.v.as_mut_slice(), steps);
+    let tests = plan.tests_after(p);
+    let passed = m.tests.apply(tests, m.v.as_mut_slice(), steps);
     m.passages = Passages {
         least: m.passages.least + passed.lo,
         most: m.passages.most + passed.hi,

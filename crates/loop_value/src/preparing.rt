@@ -1,6 +1,6 @@
 //! What the computation of a loop needs, all of it made before the first beat.
 
-ghost use Rattle.std.specs.Prelude.{◌≡◌, ◌≤◌, ◌<◌, ◌^◌, length, replicate, slice_set, IfOk};
+ghost use Rattle.std.specs.Prelude.{◌≡◌, ◌≤◌, ◌<◌, ◌^◌, replicate, slice_set, IfOk};
 ghost use Rattle.sil_model.specs.Sizes.{all_beats_of, most_beats, states_of, most_states};
 ghost use Rattle.loop_value.specs.Mission.{IsPlanOf, IsReady, StandsAt};
 
@@ -27,7 +27,7 @@ pub struct Prepared {
     /// The rate at which it goes down, in 10^-18 per hour, for each count vector.
     pub rates: Vec<u64>,
     /// What is at each count vector.
-    pub v: Vec<u128>,
+    pub v: Vec<u64>,
     /// The mean over a phase.
     pub mean: Vec<u128>,
     /// The hours so far times the mean over them.
@@ -89,11 +89,11 @@ fn zeros(alloc: Global, size: usize) -> Result<Vec<u128>, AllocError>
 }
 
 /// The vector at the start: all of it is at the number 0, where every channel works.
-fn start_vector(alloc: Global, size: usize) -> Result<Vec<u128>, AllocError>
+fn start_vector(alloc: Global, size: usize) -> Result<Vec<u64>, AllocError>
     requires { 0 < size }
     ensures { IfOk result (λ v. v.items ≡ slice_set (replicate size 0) 0 (2 ^ 48)) }
 {
-    let mut v = zeros(alloc, size)?;
-    v[0] = ONE;
+    let mut v = vec![in alloc; 0u64; size]?;
+    v[0] = ONE as u64;
     Ok(v)
 }

@@ -1,17 +1,14 @@
 //! What watchers are told of a phase.
 
-ghost use Rattle.std.specs.Prelude.{◌≡◌, ℕ, suc, ◌+◌, ◌^◌, ◌<◌, ◌≤◌, length, map, sum, OnOk, OnErr};
+ghost use Rattle.std.specs.Prelude.{ℕ, ◌^◌, ◌<◌, ◌≤◌, length, map, sum, OnOk, OnErr};
 ghost use Rattle.sil_model.specs.Calendar.{phases_of};
-ghost use Rattle.mission_laws.specs.Missions.{pfd_lower, pfd_upper};
 ghost use Rattle.mission_laws.specs.PhaseLaws.{HasPassed};
-ghost use Rattle.loop_value.specs.Ends.{sum_down, sum_up};
 ghost use Rattle.loop_value.specs.Mission.{IsReady, IsPlanOf};
 ghost use Rattle.loop_value.specs.Records.{IsRecordOf, HasFedPhase, HasFedPhaseInPart};
 
-use crate::ends::sides;
 use crate::preparing::Prepared;
-use interval_fixed::Interval;
-use sil_model::{Decimal18, Loop};
+use crate::sides::{sides_of_means, sides_of_vector};
+use sil_model::Loop;
 use sil_watch::{PhaseRecord, WatchSet, Watcher, any_asked};
 use std::alloc::AllocError;
 use test_calendar::Plan;
@@ -54,22 +51,13 @@ fn record(m: &Prepared, l: &Loop, plan: &Plan, p: usize) -> PhaseRecord
     ensures { (order : ℕ) → 16 ≤ order → HasPassed l.now order p m.now.mean.items m.now.v.items → IsRecordOf l.now order p result }
 {
     let up = m.up.as_slice();
+    let mean = sides_of_means(m.mean.as_slice(), up);
+    let end = sides_of_vector(m.v.as_slice(), up);
     PhaseRecord {
         index: p as u32 + 1,
         start: plan.start(p),
         hours: plan.hours(p),
-        mean: down_chance(m.mean.as_slice(), up),
-        at_end: down_chance(m.v.as_slice(), up),
+        mean: mean.chance_down(),
+        at_end: end.chance_down(),
     }
-}
-
-/// How much of a vector is where the loop is down: what it lacks may be there too.
-fn down_chance(v: &[u128], up: &[bool]) -> Decimal18
-    requires length { length up.now ≡ length v.now }
-    requires mass { sum v.now ≤ 2 ^ 48 }
-    ensures lo { result.lo ≡ pfd_lower (sum_down up.now v.now) }
-    ensures hi { result.hi ≡ pfd_upper (sum_up up.now v.now) }
-{
-    let (down, above) = sides(v, up);
-    Interval::from_parts(down, above).to_decimal18()
 }

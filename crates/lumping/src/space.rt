@@ -102,8 +102,8 @@ pub fn state_count(l: &Loop) -> u128
     ensures count { result ≡ states_of l.now.subsystems }
     ensures few { result ≤ channel_states ^ 48 }
 {
-    // The values of a loop are in their ranges, so the product does not wrap.
-    let _ = l.len();
+    // So the product does not wrap.
+    l.values_are_in_range();
     let mut count = 1u128;
     for g in 0..l.groups() {
         count *= shares(l.group(g).size) as u128;
@@ -116,8 +116,8 @@ fn groups_of(alloc: Global, l: &Loop) -> Result<Vec<Group>, AllocError>
     ensures groups { IfOk result (λ v. v.items ≡ groups_of l.now.subsystems) }
     ensures sizes { All (λ g. g.size ≤ 8) (groups_of l.now.subsystems) }
 {
-    // The values of a loop are in their ranges, so that no group is larger.
-    let _ = l.len();
+    // So no group is larger.
+    l.values_are_in_range();
     let count = l.groups();
     let mut groups = Vec::with_capacity(alloc, count)?;
     for g in 0..count {

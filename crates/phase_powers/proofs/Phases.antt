@@ -16,7 +16,7 @@ use Rattle.uniformise.specs.Beat.{hours_of_beat, vector_loss, dwell_loss}
 use Rattle.dense_power.specs.Powers.{end_lack_of, dwell_lack_of}
 use Rattle.vector_laws.specs.Matrix.{Matrix, IsRowProductDown, EachEntryAtMost}
 use Rattle.vector_laws.specs.Rows.{row_of, IsBelowOperator, EachRowAtMost, EachRowNear}
-use Rattle.dense_power.proofs.Pairs.{dwell_entries}
+use Rattle.dense_power.proofs.Pairs.{dwell_entries, entries_of_rows}
 use Rattle.dense_power.proofs.RowProducts.{product_weighs, product_most, product_least}
 use Rattle.phase_powers.specs.Pairs.{beat_at, mean_at, IsRowPair, IsBeatPair, IsPhasePair}
 use Rattle.phase_powers.proofs.Losses.{end_loss, dwell_lack}
@@ -68,8 +68,8 @@ module _ (c : ChainValue) (order : ℕ) (end dwell : Matrix) where
     once = record { row = λ k h. omega (arith, pair.end_rows.row k h) }
 
     -- their entries are no greater than a product allows
-    pub end_entries : EachEntryAtMost end (2 ^ 68)
-    end_entries = dwell_entries end 1 (omega arith) once
+    pub end_entries : EachEntryAtMost end (2 ^ 48)
+    end_entries = entries_of_rows end (2 ^ 48) pair.end_rows
 
     pub dwell_sum_entries : c.beats ≤ 1_000_000 → EachEntryAtMost dwell (2 ^ 68)
     dwell_sum_entries few = dwell_entries dwell c.beats few pair.dwell_rows

@@ -34,7 +34,7 @@ pub fn run_phase_powered<L: Ledger>(
     powers: &mut Powers,
     work: &mut Workspace,
     phase: &Phase<'_>,
-    v: &mut [u128],
+    v: &mut [u64],
     mean: &mut [u128],
     dwell_hours: &mut [u128],
     steps: &mut Steps<L>,

@@ -30,7 +30,7 @@ pub struct Matrices {
     /// Room for powers.
     pub scratch: Vec<Dense>,
     /// Room for a row.
-    pub row: Vec<u128>,
+    pub row: Vec<u64>,
 }
 
 impl Matrices {
@@ -48,7 +48,7 @@ impl Matrices {
         for _ in 0..4u8 {
             scratch.push(Dense::new(alloc, size)?)?;
         }
-        let row = vec![in alloc; 0u128; size]?;
+        let row = vec![in alloc; 0u64; size]?;
         Ok(Matrices {
             kept: None,
             end,
@@ -139,8 +139,8 @@ impl Matrices {
 pub fn pass<L: Ledger>(
     end: &Dense,
     dwell: &Dense,
-    row: &mut [u128],
-    v: &mut [u128],
+    row: &mut [u64],
+    v: &mut [u64],
     dwelt: &mut [u128],
     steps: &mut Steps<L>,
 )
@@ -149,13 +149,41 @@ pub fn pass<L: Ledger>(
     requires v { length v.old ≡ end.now.size }
     requires dwelt { length dwelt.old ≡ end.now.size }
     requires mass { IsMass v.old }
-    requires end_small { EachEntryAtMost end.now (2 ^ 68) }
+    requires end_small { EachEntryAtMost end.now (2 ^ 48) }
     requires dwell_small { EachEntryAtMost dwell.now (2 ^ 68) }
     ensures ends { IsRowProductDown v.old end.now v.new }
     ensures dwells { IsRowProductDown v.old dwell.now dwelt.new }
     ensures steps { steps.new ≡ steps.old + 2 * end.now.size ^ 2 }
 {
-    dwell.row_product_down(v, dwelt, steps);
-    end.row_product_down(v, row, steps);
+    dwell_of(dwell, v, dwelt, steps);
+    end_of(end, v, row, steps);
     v.copy_from_slice(row);
+}
+
+/// Makes `to` the product of a vector and an end matrix.
+fn end_of<L: Ledger>(end: &Dense, v: &[u64], to: &mut [u64], steps: &mut Steps<L>)
+    requires v { length v.now ≡ end.now.size }
+    requires to { length to.old ≡ end.now.size }
+    requires mass { IsMass v.now }
+    requires small { EachEntryAtMost end.now (2 ^ 48) }
+    ensures product { IsRowProductDown v.now end.now to.new }
+    ensures steps { steps.new ≡ steps.old + end.now.size ^ 2 }
+{
+    for j in 0..end.size() {
+        to[j] = end.row_product_down(v, j, steps) as u64;
+    }
+}
+
+/// Makes `to` the product of a vector and a dwell sum.
+fn dwell_of<L: Ledger>(dwell: &Dense, v: &[u64], to: &mut [u128], steps: &mut Steps<L>)
+    requires v { length v.now ≡ dwell.now.size }
+    requires to { length to.old ≡ dwell.now.size }
+    requires mass { IsMass v.now }
+    requires small { EachEntryAtMost dwell.now (2 ^ 68) }
+    ensures product { IsRowProductDown v.now dwell.now to.new }
+    ensures steps { steps.new ≡ steps.old + dwell.now.size ^ 2 }
+{
+    for j in 0..dwell.size() {
+        to[j] = dwell.row_product_down(v, j, steps);
+    }
 }

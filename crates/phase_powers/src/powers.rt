@@ -52,7 +52,7 @@ impl Powers {
         &mut self,
         work: &mut Workspace,
         phase: &Phase<'_>,
-        v: &mut [u128],
+        v: &mut [u64],
         dwell: &mut [u128],
         steps: &mut Steps<L>,
     )

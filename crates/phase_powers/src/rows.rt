@@ -16,7 +16,7 @@ use uniformise::Workspace;
 pub fn make_beat_pair<L: Ledger>(
     end: &mut Dense,
     dwell: &mut Dense,
-    end_row: &mut [u128],
+    end_row: &mut [u64],
     dwell_row: &mut [u128],
     work: &mut Workspace,
     phase: &Phase<'_>,
@@ -34,14 +34,14 @@ pub fn make_beat_pair<L: Ledger>(
     for i in 0..end_row.len() {
         beat_from(i, end_row, dwell_row, work, phase, steps);
         end.set_row(i, end_row);
-        dwell.set_row(i, dwell_row);
+        dwell.set_wide_row(i, dwell_row);
     }
 }
 
 /// Makes `end` the vector after one beat of the whole at state i, and `dwell` what it dwells during the beat.
 fn beat_from<L: Ledger>(
     i: usize,
-    end: &mut [u128],
+    end: &mut [u64],
     dwell: &mut [u128],
     work: &mut Workspace,
     phase: &Phase<'_>,
@@ -56,7 +56,7 @@ fn beat_from<L: Ledger>(
     ensures steps { steps.new ≤ steps.old + beat_products phase.now.chain.now.of.subsystems phase.now.weights.now }
 {
     end.fill(0);
-    end[i] = ONE;
+    end[i] = ONE as u64;
     dwell.fill(0);
     work.beat(phase.chain, phase.weights, end, dwell, steps);
 }

@@ -8,7 +8,6 @@ use Rattle.sil_model.specs.Budget.{lumped_events_of}
 use Rattle.sil_model.specs.Sizes.{states_of}
 use Rattle.sil_model.specs.declared.parts.Subsystem.{Subsystem}
 use Rattle.vector_laws.proofs.Masses.{sum-none, place-le}
-use Rattle.product_chain.specs.Kept.{events_number}
 use Rattle.beat_ladder.specs.Losses.{IsStep}
 use Rattle.uniformise.specs.Beat.{beat_products}
 use Rattle.place_chain.specs.PlaceChain.{PlaceChainValue, AreInOrder, step_of_places, tick_loss_of}
@@ -24,12 +23,12 @@ blank n xs e k h =
     rw e (get_or-replicate n k 0 0 few)
 
 -- a beat over few places loses no more than one over all
-loss_of_places : (us : List Subsystem) (n : ℕ) → n ≤ states_of us → beat_loss_in_blocks (events_number us + n) n ≤ block_beat_loss us
+loss_of_places : (us : List Subsystem) (n : ℕ) → n ≤ states_of us → beat_loss_in_blocks (lumped_events_of us + n) n ≤ block_beat_loss us
 unfolding lumped_events_of
 loss_of_places us n few = omega (arith, few)
 
 -- and takes no more products
-pub products_of_places : (us : List Subsystem) (entries n : ℕ) → n ≤ states_of us → entries ≤ states_of us * (events_number us + 1)
+pub products_of_places : (us : List Subsystem) (entries n : ℕ) → n ≤ states_of us → entries ≤ states_of us * (lumped_events_of us + 1)
     → beat_products_in_blocks entries n ≤ beat_products us 16
 unfolding lumped_events_of
 products_of_places us entries n few some = omega (arith, few, some)
@@ -89,7 +88,7 @@ module _ (r : PlaceChainValue) (placed : AreInOrder r.chain.of.subsystems r.plac
     pub passes_scattered : Passes r.chain 16 (block_beat_loss r.chain.of.subsystems) m before after old new
     passes_scattered =
         let loss : ℕ = beat_loss_in_blocks (tick_loss_of r) (length r.places) in
-        let E : ℕ = events_number r.chain.of.subsystems in
+        let E : ℕ = lumped_events_of r.chain.of.subsystems in
         let ticks : tick_loss_of r ≡ E + length r.places = ap (λ (b : Bool). if b then E + length r.places else 2 ^ 48) closed in
         let less : loss ≤ block_beat_loss r.chain.of.subsystems =
         rw ticks (loss_of_places r.chain.of.subsystems (length r.places) placed.few) in

@@ -20,7 +20,7 @@ pub fn run_phase_by_ladder<L: Ledger>(
     room: &mut LadderRoom,
     work: &mut Workspace,
     phase: &Phase<'_>,
-    v: &mut [u128],
+    v: &mut [u64],
     mean: &mut [u128],
     dwell_hours: &mut [u128],
     steps: &mut Steps<L>,

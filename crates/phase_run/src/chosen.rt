@@ -2,7 +2,7 @@
 
 ghost use Rattle.std.specs.Prelude.{◌≡◌, ℕ, ◌+◌, ◌*◌, ◌^◌, ◌<◌, ◌≤◌, length, sum, slice_index, IsTrue, IsFalse};
 ghost use Rattle.sil_model.specs.Budget.{lumped_events_of};
-ghost use Rattle.sil_model.specs.Sizes.{states_of};
+ghost use Rattle.sil_model.specs.Sizes.{states_of, most_beats};
 ghost use Rattle.vector_laws.specs.Vectors.{IsMass};
 ghost use Rattle.uniformise.specs.Beat.{beat_products};
 ghost use Rattle.place_chain.specs.Sweeps.{choice_products};
@@ -15,7 +15,7 @@ use crate::room::PartRoom;
 use beat_ladder::{BlockRoom, Ladder};
 use place_chain::PlaceChain;
 use product_chain::Chain;
-use sil_model::{Loop, Steps};
+use sil_model::Steps;
 use std::sync::ledger::Ledger;
 
 /// For fewer beats no places are chosen: that takes about as long as it saves.
@@ -24,19 +24,10 @@ const LEAST_BEATS: u64 = 8;
 /// Places into which beats bring at most so much for each of them are left out, in units of 2^-48.
 const LEAST_MASS: u64 = 16;
 
-/// How many lumped events a loop has: four for each group, and three common causes for each subsystem.
-#[tactic(auto, unfolding(sil_model::specs::Budget::lumped_events_of))]
-pub fn events_of(l: &Loop) -> u64
-    ensures value { result ≡ lumped_events_of l.now.subsystems }
-    ensures few { result ≤ 1_000 }
-{
-    4 * l.groups() as u64 + 3 * l.len() as u64
-}
-
 /// Whether a choice of places and then so many products for each beat come to no more than the beats may take.
 fn choice_fits(chain: &Chain, of_beat: u128, beats: u64, events: u64) -> bool
     requires of_beat { of_beat ≤ 2 ^ 81 }
-    requires few { beats ≤ 1_000_000 }
+    requires few { beats ≤ most_beats }
     requires events { events ≡ lumped_events_of chain.now.of.subsystems }
     requires few_events { events ≤ 1_000 }
     ensures { IsTrue result → choice_products chain.now.of.subsystems + beats * of_beat ≤ beats * beat_products chain.now.of.subsystems 16 }
@@ -58,7 +49,7 @@ fn may_be_tried(
     beats: u64,
     events: u64,
 ) -> bool
-    requires few { beats ≤ 1_000_000 }
+    requires few { beats ≤ most_beats }
     requires events { events ≡ lumped_events_of chain.now.of.subsystems }
     requires few_events { events ≤ 1_000 }
     ensures { IsTrue result → choice_products chain.now.of.subsystems
@@ -88,15 +79,15 @@ fn loss_of_beat(states: usize, events: u64) -> u128
     2 * u128::from(events) + 2 * states as u128 + 200
 }
 
-/// The sum of all numbers.
-fn total(v: &[u128]) -> u128
-    requires { sum v.now < 2 ^ 128 }
-    ensures { result ≡ sum v.now }
+/// The sum of a dwell.
+fn total(dwell: &[u128]) -> u128
+    requires { sum dwell.now < 2 ^ 128 }
+    ensures { result ≡ sum dwell.now }
 {
-    v.iter().sum()
+    dwell.iter().sum()
 }
 
-/// The mass of a vector over places.
+/// The mass of a vector.
 fn mass(v: &[u64]) -> u64
     requires { sum v.now < 2 ^ 64 }
     ensures { result ≡ sum v.now }
@@ -105,16 +96,16 @@ fn mass(v: &[u64]) -> u64
 }
 
 /// Whether in so many beats a vector and its dwell have lost at most half of what they may.
-fn loses_little(before: &[u128], after: &[u64], dwelt: &[u128], beats: u64, loss: u128) -> bool
+fn loses_little(before: &[u64], after: &[u64], dwelt: &[u128], beats: u64, loss: u128) -> bool
     requires before { sum before.now ≤ 2 ^ 48 }
     requires after { sum after.now ≤ 2 ^ 48 }
     requires dwelt { sum dwelt.now ≤ beats * 2 ^ 48 }
-    requires few { beats ≤ 1_000_000 }
+    requires few { beats ≤ most_beats }
     requires small { loss ≤ 2 ^ 67 }
     ensures { IsTrue result → LosesLittle beats loss before.now after.now dwelt.now }
 {
     let beats = u128::from(beats);
-    let before = total(before);
+    let before = u128::from(mass(before));
     let lost = before.saturating_sub(u128::from(mass(after)));
     let lacks = (beats * before).saturating_sub(total(dwelt));
     2 * lost <= beats * loss && 2 * lacks <= beats * beats * loss
@@ -126,7 +117,7 @@ fn pass_over_chosen<L: Ledger>(
     blocks: &mut BlockRoom,
     small: &mut [u64],
     small_dwell: &mut [u128],
-    v: &mut [u128],
+    v: &mut [u64],
     dwell: &mut [u128],
     steps: &mut Steps<L>,
 ) -> bool
@@ -139,7 +130,7 @@ fn pass_over_chosen<L: Ledger>(
     requires dwell { length dwell.old ≡ states_of stretch.now.places.now.chain.of.subsystems }
     requires mass { IsMass v.old }
     requires none { (k : ℕ) → k < length dwell.old → slice_index dwell.old k ≡ 0 }
-    requires few { stretch.now.beats ≤ 1_000_000 }
+    requires few { stretch.now.beats ≤ most_beats }
     ensures blocks { blocks.new ≡ blocks.old }
     ensures passes { IsTrue result → Passes stretch.now.places.now.chain 16 (block_beat_loss stretch.now.places.now.chain.of.subsystems) stretch.now.beats v.old v.new dwell.old dwell.new }
     ensures kept { IsFalse result → v.new ≡ v.old }
@@ -177,7 +168,7 @@ pub fn pass_over_few<L: Ledger>(
     ladder: &Ladder,
     chain: &Chain,
     beats: u64,
-    v: &mut [u128],
+    v: &mut [u64],
     dwell: &mut [u128],
     steps: &mut Steps<L>,
 ) -> bool
@@ -187,7 +178,7 @@ pub fn pass_over_few<L: Ledger>(
     requires dwell { length dwell.old ≡ states_of chain.now.of.subsystems }
     requires mass { IsMass v.old }
     requires none { (k : ℕ) → k < length dwell.old → slice_index dwell.old k ≡ 0 }
-    requires few { beats ≤ 1_000_000 }
+    requires few { beats ≤ most_beats }
     ensures room { HasPartRoom chain.now.of room.new }
     ensures reached { room.new.reached ≡ room.old.reached }
     ensures passes { IsTrue result → Passes chain.now 16 (block_beat_loss chain.now.of.subsystems) beats v.old v.new dwell.old dwell.new }

@@ -20,7 +20,7 @@ mod places;
 mod room;
 
 ghost use Rattle.std.specs.Prelude.{◌≡◌, ℕ, ◌+◌, ◌*◌, ◌/◌, ◌^◌, ◌<◌, ◌≤◌, length, slice_index, All};
-ghost use Rattle.sil_model.specs.Sizes.{states_of};
+ghost use Rattle.sil_model.specs.Sizes.{states_of, most_beats};
 ghost use Rattle.sil_model.specs.Budget.{beat_loss_of};
 ghost use Rattle.vector_laws.specs.Laws.{AreFloors};
 ghost use Rattle.vector_laws.specs.Vectors.{IsMass};
@@ -42,7 +42,7 @@ fn pass_beats<L: Ledger>(
     chain: &Chain,
     weights: &Weights,
     beats: u64,
-    v: &mut [u128],
+    v: &mut [u64],
     dwell: &mut [u128],
     steps: &mut Steps<L>,
 )
@@ -65,7 +65,7 @@ fn pass_beats<L: Ledger>(
 pub fn settle(dwell: &mut [u128], beats: u64, hours: u64, dwell_hours: &mut [u128])
     requires size { length dwell_hours.old ≡ length dwell.old }
     requires some { 0 < beats }
-    requires few { beats ≤ 1_000_000 }
+    requires few { beats ≤ most_beats }
     requires short { hours ≤ 350_400 }
     requires dwell { (k : ℕ) → k < length dwell.old → slice_index dwell.old k ≤ beats * 2 ^ 48 }
     requires room { All (λ x. x + hours * 2 ^ 48 ≤ 350_400 * 2 ^ 48) dwell_hours.old }

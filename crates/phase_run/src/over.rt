@@ -1,7 +1,7 @@
 //! Blocks of beats over the places that a vector reaches.
 
 ghost use Rattle.std.specs.Prelude.{◌≡◌, ℕ, true, ◌+◌, ◌-◌, ◌*◌, ◌<◌, ◌≤◌, length, slice_index};
-ghost use Rattle.sil_model.specs.Sizes.{states_of};
+ghost use Rattle.sil_model.specs.Sizes.{states_of, most_beats};
 ghost use Rattle.vector_laws.specs.Vectors.{IsMass};
 ghost use Rattle.place_chain.specs.PlaceChain.{IsWithin};
 ghost use Rattle.phase_run.specs.Passes.{Passes, block_beat_loss, beat_products_in_blocks};
@@ -31,7 +31,7 @@ pub fn pass_over<L: Ledger>(
     blocks: &mut BlockRoom,
     small: &mut [u64],
     small_dwell: &mut [u128],
-    v: &mut [u128],
+    v: &mut [u64],
     dwell: &mut [u128],
     steps: &mut Steps<L>,
 ) -> u64
@@ -44,7 +44,7 @@ pub fn pass_over<L: Ledger>(
     requires closed { stretch.now.places.now.closed ≡ true }
     requires within { IsWithin stretch.now.places.now.places v.old }
     requires none { (k : ℕ) → k < length dwell.old → slice_index dwell.old k ≡ 0 }
-    requires few { stretch.now.beats ≤ 1_000_000 }
+    requires few { stretch.now.beats ≤ most_beats }
     ensures blocks { blocks.new ≡ blocks.old }
     ensures left { result ≤ stretch.now.beats }
     ensures all { 0 < stretch.now.ladder.now → result ≡ 0 }

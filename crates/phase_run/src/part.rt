@@ -1,7 +1,7 @@
 //! Blocks of beats over the places that hold mass in a part of a phase.
 
 ghost use Rattle.std.specs.Prelude.{◌≡◌, ℕ, ◌+◌, ◌-◌, ◌*◌, ◌<◌, ◌≤◌, length, slice_index};
-ghost use Rattle.sil_model.specs.Sizes.{states_of};
+ghost use Rattle.sil_model.specs.Sizes.{states_of, most_beats};
 ghost use Rattle.vector_laws.specs.Vectors.{IsMass};
 ghost use Rattle.uniformise.specs.Beat.{beat_products};
 ghost use Rattle.phase_run.specs.Passes.{Passes, block_beat_loss};
@@ -24,7 +24,7 @@ pub fn pass_part<L: Ledger>(
     ladder: &Ladder,
     chain: &Chain,
     beats: u64,
-    v: &mut [u128],
+    v: &mut [u64],
     dwell: &mut [u128],
     steps: &mut Steps<L>,
 ) -> u64
@@ -33,7 +33,7 @@ pub fn pass_part<L: Ledger>(
     requires dwell { length dwell.old ≡ states_of chain.now.of.subsystems }
     requires mass { IsMass v.old }
     requires none { (k : ℕ) → k < length dwell.old → slice_index dwell.old k ≡ 0 }
-    requires few { beats ≤ 1_000_000 }
+    requires few { beats ≤ most_beats }
     ensures room { HasPartRoom chain.now.of room.new }
     ensures left { result ≤ beats }
     ensures all { 0 < ladder.now → result ≡ 0 }

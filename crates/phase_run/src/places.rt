@@ -1,7 +1,7 @@
 //! The blocks of beats of a phase, in two parts, and the room for them.
 
 ghost use Rattle.std.specs.Prelude.{◌≡◌, ℕ, ◌+◌, ◌-◌, ◌*◌, ◌<◌, ◌≤◌, ◌^◌, length, slice_index, All, IfOk};
-ghost use Rattle.sil_model.specs.Sizes.{states_of};
+ghost use Rattle.sil_model.specs.Sizes.{states_of, most_beats};
 ghost use Rattle.vector_laws.specs.Vectors.{IsMass};
 ghost use Rattle.vector_laws.specs.Laws.{IsSumWith};
 ghost use Rattle.uniformise.specs.Beat.{beat_products};
@@ -69,7 +69,7 @@ impl LadderRoom {
         &mut self,
         chain: &Chain,
         beats: u64,
-        v: &mut [u128],
+        v: &mut [u64],
         dwell: &mut [u128],
         steps: &mut Steps<L>,
     ) -> u64
@@ -78,7 +78,7 @@ impl LadderRoom {
         requires dwell { length dwell.old ≡ states_of chain.now.of.subsystems }
         requires mass { IsMass v.old }
         requires none { (k : ℕ) → k < length dwell.old → slice_index dwell.old k ≡ 0 }
-        requires few { beats ≤ 1_000_000 }
+        requires few { beats ≤ most_beats }
         ensures same { self.new ≡ self.old }
         ensures left { result ≤ beats }
         ensures passes { Passes chain.now 16 (block_beat_loss chain.now.of.subsystems) (beats - result) v.old v.new dwell.old dwell.new }

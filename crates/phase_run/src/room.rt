@@ -4,7 +4,6 @@ ghost use Rattle.std.specs.Prelude.{◌≡◌, IfOk};
 ghost use Rattle.sil_model.specs.Sizes.{states_of};
 ghost use Rattle.phase_run.specs.Rooms.{HasPartRoom};
 
-use crate::chosen::events_of;
 use beat_ladder::BlockRoom;
 use place_chain::PlaceChain;
 use product_chain::Chain;
@@ -35,7 +34,7 @@ impl PartRoom {
         requires size { size ≡ states_of chain.now.of.subsystems }
         ensures { IfOk result (HasPartRoom chain.now.of) }
     {
-        let events = events_of(l);
+        let events = l.lumped_events();
         let reached = PlaceChain::new(alloc, l, chain)?;
         let chosen = PlaceChain::new(alloc, l, chain)?;
         let blocks = BlockRoom::new(alloc, size)?;

@@ -1,4 +1,3 @@
-pub mod Extents
 pub mod ExtentSums
 pub mod Passing
 pub mod Separate

@@ -30,15 +30,6 @@ use Rattle.subsystem_power.specs.Powers.{PowerValue, IsPowerOf}
 use Rattle.phase_separate.specs.Passes.{PassesAlong, along_loss}
 use Rattle.phase_separate.specs.Subsystems.{chain_alone, powers_at, steps_at, matrix_loss}
 
--- an entry is at most its row
-pub entries_small : (m : Matrix) (most : ℕ) → EachRowAtMost m most → EachEntryAtMost m most
-unfolding row_of
-entries_small m most rows = record {
-  entry = λ i j p q.
-      let at : get_or (row_of m i) j 0 ≡ entry_of m i j = get_or-map-range_with_len (entry_of m i) 0 m.size j j 0 q (omega arith) in
-      omega (arith, at, place-le (row_of m i) j, rows.row i p);
-}
-
 -- the subsystem that comes next, with its powers
 pub record IsNext (c : ChainValue) (n : ℕ) (us : List Subsystem) (i : ℕ) (p : PowerValue) : Type 0 where
   pub subsystem : Subsystem

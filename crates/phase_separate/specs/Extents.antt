@@ -1,8 +1,9 @@
 -- The sizes of the subsystems of a loop, as they are kept.
 use Rattle.std.specs.Prelude.{◌≡◌, ◌+◌, ◌*◌, ◌^◌, ◌≤◌, List, [], ◌∷◌, length, sum_by}
-use Rattle.sil_model.specs.Budget.{lumped_events_of}
-use Rattle.sil_model.specs.Sizes.{states_of, most_states}
+use Rattle.sil_model.specs.Budget.{lumped_events_of, group_events, common_causes}
+use Rattle.sil_model.specs.Sizes.{channel_states, states_of, most_states}
 use Rattle.sil_model.specs.declared.parts.Subsystem.{Subsystem}
+use Rattle.vector_laws.specs.Matrix.{most_rows}
 use Rattle.separate_laws.specs.Subsystems.{states_in}
 use Rattle.subsystem_power.specs.Powers.{begin_products}
 use Rattle.phase_separate.specs.Subsystems.{matrix_loss}
@@ -15,8 +16,8 @@ pub record IsSizeOf (u : Subsystem) (s : Size) : Type 0 where
   pub states : s.states ≡ states_in u
   pub events : s.events ≡ lumped_events_of (u ∷ [])
   pub some : 1 ≤ s.states
-  pub few_events : s.events ≤ 35
-  pub few : s.states ≤ 65_536
+  pub few_events : s.events ≤ 8 * group_events + common_causes
+  pub few : s.states ≤ channel_states ^ 8
 
 -- sums over at most six subsystems are small
 pub record AreSmall (s : Sums) : Type 0 where
@@ -38,7 +39,7 @@ pub record AreSumsOf (us : List Subsystem) (s : Sums) : Type 0 where
   pub cubes : s.cubes ≡ sum_by (λ u. states_in u ^ 3) us
   pub begin : s.begin ≡ sum_by (λ u. begin_products (u ∷ [])) us
   pub lack : s.lack ≡ matrix_loss us
-  pub few_states : s.states ≤ 64 * length us
+  pub few_states : s.states ≤ most_rows * length us
   pub few_cubes : s.cubes ≤ 262_144 * length us
   pub few_to_begin : s.begin ≤ 4_000_000 * length us
   pub little : s.lack ≤ 300 * length us

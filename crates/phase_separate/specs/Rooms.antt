@@ -14,8 +14,6 @@ pub record HaveSize (n : ℕ) (b : Buffers) : Type 0 where
 pub record HasRoom (r : Inside) : Type 0 where
   pub weights : r.weights ≡ 16
   pub subsystems : loops_of r.subsystems.items ≡ map (alone_of r.of.value) r.of.value.subsystems
-  pub start : vec_len r.start ≡ states_of r.of.value.subsystems
   pub buffers : HaveSize (states_of r.of.value.subsystems) r.buffers
   pub visited : vec_len r.visited ≡ states_of r.of.value.subsystems
   pub later : vec_len r.later ≡ states_of r.of.value.subsystems
-  pub mean : vec_len r.mean ≡ states_of r.of.value.subsystems

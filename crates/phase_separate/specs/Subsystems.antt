@@ -3,6 +3,7 @@ use Rattle.std.specs.Prelude.{ℕ, ◌+◌, ◌≤◌, List, [], ◌∷◌, map,
 use Rattle.sil_model.specs.Series.{Values}
 use Rattle.sil_model.specs.LoopValue.{LoopValue}
 use Rattle.sil_model.specs.declared.parts.Subsystem.{Subsystem}
+use Rattle.vector_laws.specs.Matrix.{most_rows}
 use Rattle.product_chain.specs.Kept.{ChainValue}
 use Rattle.uniformise.specs.Beat.{hours_of_beat, vector_loss}
 use Rattle.separate_laws.specs.Subsystems.{states_in, steps_of_subsystems}
@@ -33,7 +34,7 @@ beats_over Sixteen n = 16
 
 -- no subsystem has more count vectors than a matrix has rows
 abbrev pub HaveFewStates : List Subsystem → Type 0
-HaveFewStates us = All (λ u. states_in u ≤ 64) us
+HaveFewStates us = All (λ u. states_in u ≤ most_rows) us
 
 -- what one beat of all subsystems lacks in the matrices, at most
 abbrev pub matrix_loss : List Subsystem → ℕ

@@ -1,7 +1,7 @@
 //! A vector of the loop, passed along its subsystems.
 
 ghost use Rattle.std.specs.Prelude.{◌≡◌, ℕ, ◌+◌, ◌*◌, ◌^◌, ◌<◌, ◌≤◌, sum, vec_len};
-ghost use Rattle.sil_model.specs.Sizes.{states_of};
+ghost use Rattle.sil_model.specs.Sizes.{states_of, most_states};
 ghost use Rattle.vector_laws.specs.Matrix.{EachEntryAtMost};
 ghost use Rattle.separate_laws.specs.Digits.{IsAlongDown};
 ghost use Rattle.subsystem_power.specs.Powers.{IsPowerOf};
@@ -65,7 +65,7 @@ pub fn pass_along<L: Ledger>(
     ensures passes { PassesAlong chain.now (beats_over span passed) now.old.items now.new.items }
     ensures steps { steps.new ≤ steps.old + along_products chain.now.of.subsystems }
 {
-    let _ = chain.columns();
+    chain.beats_are_enough();
     let size = now.len();
     let mut stride = 1;
     for subsystem in subsystems {
@@ -93,7 +93,7 @@ fn pass_one<L: Ledger>(
 )
     requires some { 0 < stride }
     requires now { vec_len now.old ≡ stride * matrix.now.size * blocks }
-    requires few { vec_len now.old ≤ 4096 }
+    requires few { vec_len now.old ≤ most_states }
     requires next { vec_len next.old ≡ vec_len now.old }
     requires mass { sum now.old.items ≤ 2 ^ 63 }
     requires small { EachEntryAtMost matrix.now (2 ^ 48) }

@@ -1,21 +1,20 @@
 //! How large the subsystems of a loop are: what a phase loses, and how many products it takes, where each passes it for itself.
 
 ghost use Rattle.std.specs.Prelude.{◌≡◌, ℕ, ◌+◌, ◌*◌, ◌^◌, ◌<◌, ◌≤◌, [], ◌∷◌, length, slice_index_or, sum_by, take, All, IfSome, IsTrue};
-ghost use Rattle.sil_model.specs.Budget.{lumped_events_of};
+ghost use Rattle.sil_model.specs.Budget.{lumped_events_of, group_events, common_causes};
 ghost use Rattle.sil_model.specs.LoopValue.{IsSubsystemInRange};
 ghost use Rattle.sil_model.specs.Sizes.{states_of, most_states};
+ghost use Rattle.vector_laws.specs.Matrix.{most_rows};
 ghost use Rattle.separate_laws.specs.Subsystems.{states_in};
 ghost use Rattle.phase_separate.specs.Extents.{IsSizeOf, AreSumsOf, AreSmall, IsAdded};
 ghost use Rattle.phase_separate.specs.Losses.{LoseLittle};
 ghost use Rattle.phase_separate.specs.Products.{separate_products};
 ghost use Rattle.phase_separate.specs.Subsystems.{HaveFewStates};
 
+use dense_power::MOST_ROWS;
 use sil_model::{Loop, Subsystem};
 use std::marker::Model;
 use std::snapshot::Snapshot;
-
-/// The most count vectors of a subsystem that has matrices.
-const MOST_STATES: u64 = 64;
 
 /// The order of the weights by which the matrices are made, and what these weights lack, in units of 2^-48.
 const ORDER: u64 = 16;
@@ -74,7 +73,7 @@ impl Extent {
         Some(Extent {
             of: Snapshot::of(l),
             states: states as u64,
-            events: 4 * l.groups() as u64 + 3 * subsystems,
+            events: l.lumped_events(),
             subsystems,
             sums,
         })
@@ -125,7 +124,7 @@ fn sums_of(l: &Loop) -> Option<Sums>
     };
     for i in 0..l.len() {
         let size = size_of(l.subsystem(i));
-        if size.states > MOST_STATES {
+        if size.states > MOST_ROWS as u64 {
             return None;
         }
         sums.add(size);
@@ -137,8 +136,8 @@ impl Sums {
     /// Adds those of one more subsystem.
     fn add(&mut self, size: Size)
         requires small { AreSmall self.old }
-        requires states { size.states ≤ 64 }
-        requires events { size.events ≤ 35 }
+        requires states { size.states ≤ most_rows }
+        requires events { size.events ≤ 8 * group_events + common_causes }
         ensures { IsAdded self.old size self.new }
     {
         let cube = size.states * size.states * size.states;
@@ -163,15 +162,8 @@ fn size_of(u: &Subsystem) -> Size
     requires { IsSubsystemInRange u.now }
     ensures { IsSizeOf u.now result }
 {
-    let channels = u64::from(u.vote.n);
-    match u.test {
-        Some(plan) if plan.stagger != 0 => Size {
-            states: 4u64.pow(u32::from(u.vote.n)),
-            events: 4 * channels + 3,
-        },
-        _ => Size {
-            states: (channels + 1) * (channels + 2) * (channels + 3) / 6,
-            events: 7,
-        },
+    Size {
+        states: u.states(),
+        events: u.lumped_events(),
     }
 }

@@ -4,13 +4,13 @@ ghost use Rattle.std.specs.Prelude.{◌≡◌, ℕ, ◌*◌, ◌^◌, ◌<◌, �
 ghost use Rattle.vector_laws.specs.Laws.{AreFloors};
 
 /// Makes `mean` a sum of vectors divided by how many they are, rounded down.
-pub fn divide(sums: &[u64], count: u64, mean: &mut [u128])
+pub fn divide(sums: &[u64], count: u64, mean: &mut [u64])
     requires size { length mean.old ≡ length sums.now }
     requires some { 0 < count }
     ensures { AreFloors count sums.now mean.new }
 {
     for k in 0..sums.len() {
-        mean[k] = u128::from(sums[k] / count);
+        mean[k] = sums[k] / count;
     }
 }
 

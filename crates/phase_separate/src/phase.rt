@@ -153,7 +153,7 @@ pub fn dwell_all<L: Ledger>(
     work: &mut Workspace,
     phase: &Phase<'_>,
     visited: &[u64],
-    mean: &mut [u128],
+    mean: &mut [u64],
     dwell: &mut [u128],
     steps: &mut Steps<L>,
 )
@@ -174,25 +174,4 @@ pub fn dwell_all<L: Ledger>(
     dwell.fill(0);
     work.beat(phase.chain, phase.weights, mean, dwell, steps);
     multiply(dwell, phase.beats);
-}
-
-/// A vector in 64 bits.
-pub fn narrow(v: &[u128], to: &mut [u64])
-    requires size { length to.old ≡ length v.now }
-    requires mass { IsMass v.now }
-    ensures { to.new ≡ v.now }
-{
-    for k in 0..v.len() {
-        to[k] = v[k] as u64;
-    }
-}
-
-/// A vector in 128 bits.
-pub fn widen(v: &[u64], to: &mut [u128])
-    requires size { length to.old ≡ length v.now }
-    ensures { to.new ≡ v.now }
-{
-    for k in 0..v.len() {
-        to[k] = u128::from(v[k]);
-    }
 }

@@ -10,7 +10,7 @@ ghost use Rattle.phase_separate.specs.Products.{separate_products};
 ghost use Rattle.phase_separate.specs.Subsystems.{HaveFewStates};
 
 use crate::along::Buffers;
-use crate::phase::{dwell_all, lower_visited, narrow, pass_ends, visit_all, widen};
+use crate::phase::{dwell_all, lower_visited, pass_ends, visit_all};
 use crate::subsystems::{begin, subsystems_of};
 use phase_run::Phase;
 use series_weights::Weights;
@@ -29,16 +29,12 @@ pub struct SeparateRoom {
     of: Snapshot<Loop>,
     weights: Weights,
     subsystems: Vec<SubsystemPower>,
-    /// The vector at the start of a phase.
-    start: Vec<u64>,
     /// A vector that is passed along the subsystems, and room for the next.
     buffers: Buffers,
     /// The sum of the vectors at the start of each beat.
     visited: Vec<u64>,
-    /// The vector at the end of a phase.
+    /// The vector at the end of a phase, and then the mean of those at the start of each beat.
     later: Vec<u64>,
-    /// The mean of the vectors at the start of each beat.
-    mean: Vec<u128>,
 }
 
 impl Model for SeparateRoom {
@@ -70,14 +66,12 @@ impl SeparateRoom {
             of: Snapshot::of(l),
             weights: Weights::new(16),
             subsystems: subsystems_of(alloc, l, hours, beats)?,
-            start: vec![in alloc; 0u64; size]?,
             buffers: Buffers {
                 now: vec![in alloc; 0u64; size]?,
                 next: vec![in alloc; 0u64; size]?,
             },
             visited: vec![in alloc; 0u64; size]?,
             later: vec![in alloc; 0u64; size]?,
-            mean: vec![in alloc; 0u128; size]?,
         })
     }
 
@@ -86,7 +80,7 @@ impl SeparateRoom {
         &mut self,
         work: &mut Workspace,
         phase: &Phase<'_>,
-        v: &mut [u128],
+        v: &mut [u64],
         dwell: &mut [u128],
         steps: &mut Steps<L>,
     )
@@ -103,11 +97,9 @@ impl SeparateRoom {
         ensures passes { Passes phase.now.chain.now 16 (block_beat_loss phase.now.chain.now.of.subsystems) phase.now.beats v.old v.new (replicate (states_of phase.now.chain.now.of.subsystems) 0) dwell.new }
         ensures steps { (digits : ℕ) → phase.now.beats < 2 ^ digits → steps.new ≤ steps.old + separate_products phase.now.chain.now.of.subsystems digits }
     {
-        // The values of its loop are in their ranges, and its beats are enough.
-        let _ = phase.chain.columns();
         let chain = phase.chain;
+        chain.beats_are_enough();
         let beats = phase.beats;
-        narrow(v, self.start.as_mut_slice());
         begin(
             chain,
             self.subsystems.as_mut_slice(),
@@ -120,7 +112,7 @@ impl SeparateRoom {
             chain,
             self.subsystems.as_mut_slice(),
             beats,
-            self.start.as_slice(),
+            v,
             self.visited.as_mut_slice(),
             &mut self.buffers,
             steps,
@@ -129,21 +121,21 @@ impl SeparateRoom {
             chain,
             self.subsystems.as_slice(),
             beats,
-            self.start.as_slice(),
+            v,
             self.later.as_mut_slice(),
             &mut self.buffers,
             steps,
         );
-        widen(self.later.as_slice(), v);
         lower_visited(
             chain,
             self.subsystems.as_slice(),
             beats,
-            self.start.as_slice(),
+            v,
             self.visited.as_mut_slice(),
             &mut self.buffers,
             steps,
         );
+        v.copy_from_slice(self.later.as_slice());
         let by_sixteen = Phase {
             chain,
             weights: &self.weights,
@@ -154,7 +146,7 @@ impl SeparateRoom {
             work,
             &by_sixteen,
             self.visited.as_slice(),
-            self.mean.as_mut_slice(),
+            self.later.as_mut_slice(),
             dwell,
             steps,
         );

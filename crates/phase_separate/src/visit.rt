@@ -38,7 +38,7 @@ pub fn double<L: Ledger>(
     ensures steps { steps.new ≤ steps.old + along_products chain.now.of.subsystems + power_products chain.now.of.subsystems }
 {
     let _ = start;
-    let _ = chain.columns();
+    chain.beats_are_enough();
     buffers.now.copy_from_slice(visited);
     pass_along(
         chain,
@@ -75,7 +75,7 @@ pub fn add_beat<L: Ledger>(
     ensures visited { IsVisited chain.now (passed + 1) start.now visited.new }
     ensures steps { steps.new ≤ steps.old + along_products chain.now.of.subsystems + power_products chain.now.of.subsystems }
 {
-    let _ = chain.columns();
+    chain.beats_are_enough();
     buffers.now.copy_from_slice(start);
     pass_along(
         chain,

@@ -70,7 +70,7 @@ impl Choice {
         Choice {
             of: Snapshot::of(l),
             states: states as u64,
-            events: 4 * l.groups() as u64 + 3 * l.len() as u64,
+            events: l.lumped_events(),
             order,
             extent: extent_of(l, states),
         }

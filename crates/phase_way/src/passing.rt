@@ -20,7 +20,7 @@ use std::sync::ledger::Ledger;
 /// A phase in blocks of beats.
 pub fn pass_in_blocks<L: Ledger>(
     m: &mut Rooms,
-    v: &mut [u128],
+    v: &mut [u64],
     mean: &mut [u128],
     dwell: &mut [u128],
     steps: &mut Steps<L>,
@@ -50,7 +50,7 @@ pub fn pass_in_blocks<L: Ledger>(
 /// A phase by the powers of its beat.
 pub fn pass_by_powers<L: Ledger>(
     m: &mut Rooms,
-    v: &mut [u128],
+    v: &mut [u64],
     mean: &mut [u128],
     dwell: &mut [u128],
     steps: &mut Steps<L>,
@@ -84,7 +84,7 @@ pub fn pass_by_powers<L: Ledger>(
 /// A phase by each subsystem for itself.
 pub fn pass_by_subsystems<L: Ledger>(
     m: &mut Rooms,
-    v: &mut [u128],
+    v: &mut [u64],
     mean: &mut [u128],
     dwell: &mut [u128],
     steps: &mut Steps<L>,
@@ -110,7 +110,15 @@ pub fn pass_by_subsystems<L: Ledger>(
         beats: m.chain.beats(),
     };
     match &mut m.subsystems {
-        Some(subsystems) => run_phase_separately(subsystems, &mut m.work, &phase, v, mean, dwell, steps),
+        Some(subsystems) => run_phase_separately(
+            subsystems,
+            &mut m.work,
+            &phase,
+            v,
+            mean,
+            dwell,
+            steps,
+        ),
         None => unreachable!(),
     }
 }

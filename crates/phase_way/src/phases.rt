@@ -62,7 +62,7 @@ impl PhaseRooms {
         &mut self,
         l: &Loop,
         hours: u64,
-        v: &mut [u128],
+        v: &mut [u64],
         mean: &mut [u128],
         dwell: &mut [u128],
         steps: &mut Steps<L>,

@@ -2,7 +2,6 @@
 use Rattle.std.specs.Prelude.{◌≡◌, ℕ, ◌+◌, ◌<◌, ◌≤◌, List, ◌++◌, length, map, slice_index, All}
 use Rattle.std.specs.List.Sorted.{IsPermutation}
 use Rattle.sil_model.specs.LoopValue.{LoopValue, IsValid}
-use Rattle.sil_model.specs.Budget.{lumped_events_of}
 use Rattle.sil_model.specs.Sizes.{states_of, most_states}
 use Rattle.sil_model.specs.Calendar.{beats_of}
 use Rattle.sil_model.specs.declared.parts.Subsystem.{Subsystem}
@@ -17,10 +16,6 @@ pub record ChainValue : Type 0 where
   pub of : LoopValue
   pub hours : ℕ
   pub beats : ℕ
-
--- another name, for the crates above
-abbrev pub events_number : List Subsystem → ℕ
-events_number us = lumped_events_of us
 
 -- beats that are short enough for the loop
 pub record IsTimed (us : List Subsystem) (hours beats : ℕ) : Type 0 where

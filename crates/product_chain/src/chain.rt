@@ -66,8 +66,7 @@ impl Chain {
         requires short { IsTimed l.now.subsystems hours beats }
         ensures { IfOk result (λ c. c ≡ record { of = l.now; hours = hours; beats = beats }) }
     {
-        // The values of a loop are in their ranges.
-        let _ = l.mission();
+        l.values_are_in_range();
         let size = space.size();
         let (moves, mut rates) = moves_of(alloc, l, space)?;
         let move_starts = starts_of(alloc, moves.as_slice(), size)?;
@@ -130,6 +129,15 @@ impl Chain {
         ensures timed { IsTimed self.now.of.subsystems self.now.hours self.now.beats }
     {
         self.beats
+    }
+
+    /// The values of its loop are in their ranges, and its beats are enough. It does nothing; its clauses say so to its caller.
+    pub fn beats_are_enough(&self)
+        ensures valid { IsValid self.now.of }
+        ensures few { states_of self.now.of.subsystems ≤ most_states }
+        ensures timed { IsTimed self.now.of.subsystems self.now.hours self.now.beats }
+    {
+        let _ = &self.stays;
     }
 
     /// The columns of a tick, in the order of their targets.

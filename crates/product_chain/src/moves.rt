@@ -68,8 +68,7 @@ fn moves_by_source(
     ensures known { IfOk result (λ p. All (λ m. m.rate < length p.1.items) p.0.items) }
     ensures slow { IfOk result (λ p. All (λ r. IsSlow l.now.subsystems r.num r.den) p.1.items) }
 {
-    // The values of a loop are in their ranges.
-    let _ = l.mission();
+    l.values_are_in_range();
     let events = events(alloc, l)?;
     let mut rates = Vec::new(alloc);
     let mut numbers = IndexSet::new(alloc);

@@ -1,1 +1,3 @@
+pub mod BandOf
 pub mod Meets
+pub mod Texts

@@ -2,12 +2,14 @@
 //! PFH.
 //!
 //! Each band holds its lower end and not its upper end. The band of an interval is the one that holds both of its ends, and
-//! `Undecided` exactly where none does. No call takes memory, and none refuses.
+//! `Undecided` exactly where none does ([`one_band_law`]). No call takes memory, and none refuses.
 #![tactic(auto)]
 
 ghost use Rattle.std.specs.Prelude.{◌≡◌, ℕ, ◌*◌, ◌^◌, ◌≤◌, ◌<◌};
 ghost use Rattle.sil_model.specs.Bands.{IsInBand, IsBandOf, pfd_edge, pfh_edge};
+ghost use Rattle.sil_bands.specs.BandOf.{HasOneBand};
 ghost use Rattle.sil_bands.specs.Meets.{meets_of};
+ghost use Rattle.sil_bands.specs.Texts.{band_text_of};
 
 use sil_model::{Band, Decimal18};
 
@@ -47,6 +49,26 @@ pub fn meets(band: Band, need: u8) -> bool
         Band::NoSil | Band::Undecided => false,
     }
 }
+
+/// The text of a band.
+pub fn band_text(band: Band) -> &'static str
+    ensures { result.now ≡ band_text_of band }
+{
+    match band {
+        Band::Beyond4 => "beyond SIL 4",
+        Band::Sil4 => "SIL 4",
+        Band::Sil3 => "SIL 3",
+        Band::Sil2 => "SIL 2",
+        Band::Sil1 => "SIL 1",
+        Band::NoSil => "no SIL",
+        Band::Undecided => "undecided",
+    }
+}
+
+/// An interval has one band, and for PFDavg this is a function of its ends (`pfd_band_of`).
+pub fn one_band_law()
+    ensures { HasOneBand }
+{}
 
 /// The band that holds both ends of the interval, where SIL 4 begins at the edge.
 fn band_of(edge: u128, interval: Decimal18) -> Band

@@ -49,6 +49,13 @@ impl Loop {
         self.mission
     }
 
+    /// The values of the loop are in their ranges, and its names are distinct. It does nothing; its clause says so to its caller.
+    pub fn values_are_in_range(&self)
+        ensures { IsValid self.now }
+    {
+        let _ = &self.mission;
+    }
+
     /// The order of the series.
     pub fn order(&self) -> u8
         ensures { result ≡ self.now.order }

@@ -4,10 +4,10 @@ use Rattle.std.specs.Prelude.{codes, decimal, nat_eq, ◌&&◌, if◌then◌else
 use Rattle.std.proofs.lemmas.List.{append_cancel_left}
 use Rattle.sil_model.specs.declared.answers.Band.{Band}
 use Rattle.sil_model.specs.declared.answers.Band.TheVariants.{Beyond4, Sil4, Sil3, Sil2, Sil1, NoSil, Undecided}
+use Rattle.sil_bands.specs.Texts.{band_text_of}
 use Rattle.sil_text.specs.Figure.{decimal18}
 use Rattle.sil_text.proofs.FixedBy.{texts_fix_numbers}
 use Rattle.sil_report.specs.Texts.{count_line, counts_text}
-use Rattle.sil_report.specs.Intervals.{band_text_of}
 use Rattle.sil_report.specs.FixedBy.{Interval, Counts, IsWritable, AreWritableCounts, AreWritableEnds, line_of_interval, lines_of_counts, LinesFixNumbers}
 
 begins : List ℕ → List ℕ → Bool

@@ -4,13 +4,12 @@
 //! of memory; a fixed text takes none.
 #![tactic(auto)]
 
-mod bands;
 mod refusals;
 mod reports;
 mod sizes;
 
-pub use bands::{band_text, lines_fix_numbers};
 pub use refusals::{file_fault_text, limit_fault_text, too_long_text};
-pub use reports::report;
+pub use reports::{lines_fix_numbers, report};
+pub use sil_bands::band_text;
 pub use sizes::{counts_text, size_text};
 pub use verb_table::usage_text;

@@ -1,12 +1,11 @@
 //! The report of a loop's figures.
 
 ghost use Rattle.std.specs.Prelude.{◌≡◌, ◌++◌, ℕ, List, OnOk, IfOk};
-ghost use Rattle.sil_report.specs.FixedBy.{line_of_interval};
+ghost use Rattle.sil_report.specs.FixedBy.{LinesFixNumbers, line_of_interval};
 ghost use Rattle.sil_report.specs.Reports.{IsReport};
 
-use crate::bands::band_text;
 use crate::sizes::counts_text;
-use sil_bands::{pfd_band, pfh_band};
+use sil_bands::{band_text, pfd_band, pfh_band};
 use sil_model::{Band, Decimal18, Loop, Value};
 use sil_text::put_decimal18;
 use std::alloc::{AllocError, Global};
@@ -44,3 +43,9 @@ fn push_interval(
     text.extend_from_slice(b"\n")?;
     Ok(())
 }
+
+/// One line stands for one interval with its band, and the first five lines for their five counts, whatever comes behind
+/// them.
+pub fn lines_fix_numbers()
+    ensures { LinesFixNumbers }
+{}

@@ -1,4 +1,3 @@
-pub mod Bands
 pub mod Complete
 pub mod FileRows
 pub mod Kept
@@ -6,5 +5,5 @@ pub mod Loading
 pub mod Programs
 pub mod Refused
 pub mod Reports
-pub mod SeriesTells
+pub mod Watchers
 pub mod Told

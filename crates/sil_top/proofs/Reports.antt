@@ -24,7 +24,7 @@ use Rattle.sil_top.specs.Report.{counts_of, IsTrueReport, ReportsFixFigures}
 use Rattle.sil_report.specs.Texts.{limit_fault_line_of}
 use Rattle.sil_top.specs.Run.{Outcome, IsCalledBy, IsReported, is_shown, within_limits, without_limit}
 use Rattle.sil_top.specs.declared.Status.TheVariants.{Done, NotShown}
-use Rattle.sil_top.proofs.Bands.{one_band}
+use Rattle.sil_bands.proofs.Bands.{one_band}
 
 -- the true report of a value, with the bands that its text has
 record ReportOf (l : LoopValue) (v : Value) (text : List ℕ) (is : IsReport l.mission v text) : Type 0 where

@@ -4,3 +4,4 @@ pub mod Program
 pub mod Promises
 pub mod Report
 pub mod Run
+pub mod Watchers

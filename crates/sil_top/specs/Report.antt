@@ -1,5 +1,5 @@
 -- What makes a report true.
-use Rattle.std.specs.Prelude.{◌≡◌, ℕ, ◌+◌, ◌/◌, ◌<◌, ◌≤◌, ◌^◌, List, [], ◌∷◌, ◌++◌, length, map, true, None}
+use Rattle.std.specs.Prelude.{◌≡◌, ℕ, ◌+◌, ◌/◌, ◌<◌, ◌≤◌, ◌^◌, List, ◌++◌, length, None}
 use Rattle.sil_model.specs.LoopValue.{LoopValue}
 use Rattle.sil_model.specs.Budget.{pfd_width_of, pfh_width_of}
 use Rattle.sil_model.specs.Calendar.{phases_of}
@@ -10,14 +10,10 @@ use Rattle.limit_laws.specs.Exact.{Figure, ContainsExact18}
 use Rattle.limit_laws.specs.Exact.Figure.{Pfd, Pfh}
 use Rattle.sil_report.specs.FixedBy.{Interval, Counts}
 use Rattle.sil_report.specs.Reports.{report_lines}
-use Rattle.sil_watch.specs.Kinds.{holds}
-use Rattle.sil_watch.specs.Lines.{lines_of_all, line_of_record, text_of_lines}
-use Rattle.sil_watch.specs.Series.{series_value}
+use Rattle.sil_watch.specs.Lines.{lines_of_all}
 use Rattle.sil_watch.specs.Watching.{WatcherValue}
 use Rattle.sil_watch.specs.declared.kind.WatchSet.{WatchSet}
-use Rattle.sil_watch.specs.declared.kind.WatcherKind.TheVariants.{Series}
-use Rattle.sil_watch.specs.declared.record.PhaseRecord.{PhaseRecord}
-use Rattle.loop_value.specs.Records.{HasFed, AreRecordsFrom}
+use Rattle.loop_value.specs.Records.{HasFed}
 
 -- the counts of a loop, at its order of the series
 abbrev pub counts_of : LoopValue → Counts
@@ -58,18 +54,6 @@ pub record IsToldOfPhases (l : LoopValue) (asked : WatchSet) (before : List Watc
   pub after : List WatcherValue
   pub fed : HasFed l l.order (length (phases_of l)) asked before after
   pub printed : text ≡ lines_of_all asked after
-
--- the text has the lines of one true record of each phase, in order of the phases, each ended by a line feed
-pub record IsTextOfPhases (l : LoopValue) (text : List ℕ) : Type 0 where
-  pub records : List PhaseRecord
-  pub number : length records ≡ length (phases_of l)
-  pub are : AreRecordsFrom l l.order 0 records
-  pub printed : text ≡ text_of_lines (map line_of_record records)
-
--- that is what a series tells which had no record before and is asked for
-pub record SeriesTells : Type 0 where
-  pub told : (l : LoopValue) (asked : WatchSet) (text : List ℕ) → holds asked Series ≡ true → IsToldOfPhases l asked (series_value [] ∷ []) text
-      → IsTextOfPhases l text
 
 -- one report of a loop has one interval of each figure, and where it ends is told by its text, whatever is written behind it
 pub record ReportsFixFigures : Type 0 where

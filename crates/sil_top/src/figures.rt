@@ -4,7 +4,7 @@ ghost use Rattle.std.specs.Prelude.{◌≡◌, ◌<◌, ◌++◌, true, ℕ, Lis
 ghost use Rattle.sil_report.specs.Reports.{IsReport};
 ghost use Rattle.sil_watch.specs.Lines.{lines_of_all};
 ghost use Rattle.sil_words.specs.Language.{IsLevel};
-ghost use Rattle.sil_top.specs.Report.{ReportsFixFigures, SeriesTells};
+ghost use Rattle.sil_top.specs.Report.{ReportsFixFigures};
 ghost use Rattle.sil_top.specs.Run.{IsCalledBy, IsReported, is_shown, within_limits};
 ghost use Rattle.sil_top.specs.Causes.{outcome_of};
 
@@ -47,8 +47,7 @@ fn evaluate<L: Ledger>(
     requires level { IfSome ask.now.need IsLevel }
     ensures { IfOk result (λ x. IsCalledBy true (within_limits l.now (IsReported (map (λ w. watcher_value w) watchers.old) ask.now l.now)) (outcome_of x)) }
 {
-    // The values of a loop are in their ranges.
-    let _ = l.mission();
+    l.values_are_in_range();
     let mut steps = Steps::<L>::open(blank);
     match value(alloc, l, l.order(), watchers, ask.watch, &mut steps) {
         Ok(value) => Ok(Answer {
@@ -102,9 +101,4 @@ fn status_of(need: Option<u8>, mode: Mode, pfd: Band, pfh: Band) -> Status
 /// A report tells its figures: no other ends and no other bands have the same text.
 pub fn reports_fix_figures()
     ensures { ReportsFixFigures }
-{}
-
-/// A series that had no record before tells, where it is asked for, the lines of one true record of each phase, in order.
-pub fn series_tells()
-    ensures { SeriesTells }
 {}

@@ -13,8 +13,8 @@ ghost use Rattle.sil_top.specs.Causes.{Writes};
 ghost use Rattle.sil_top.specs.Promises.{KeepsPromises};
 
 use crate::answer::Fault;
-pub use crate::figures::{reports_fix_figures, series_tells};
-pub use crate::program::run_program;
+pub use crate::figures::reports_fix_figures;
+pub use crate::program::{run_program, watchers_tell};
 use crate::words::answer_to;
 use sil_io::{Shelf, Sink, write_whole};
 use sil_report::{too_long_text, usage_text};

@@ -3,13 +3,15 @@
 ghost use Rattle.std.specs.Prelude.{map, string_bytes};
 ghost use Rattle.sil_top.specs.Program.{program_watchers};
 ghost use Rattle.sil_top.specs.Promises.{KeepsPromises};
+ghost use Rattle.sil_top.specs.Watchers.{WatchersTell};
 
 use crate::{Status, run};
 use sil_io::{Shelf, Sink};
-use sil_watch::{Series, Watcher};
+use sil_watch::{Occupancy, Peak, Series, Watcher};
 use std::alloc::Global;
 
-/// Runs the program on its words, with its watchers: a series without records.
+/// Runs the program on its words, with its watchers: a series without records, a peak that keeps none, and an occupancy without
+/// hours.
 ///
 /// It promises what [`run`] does, with these watchers (`program_watchers`). Where a box cannot be made, the program is out of memory, and
 /// nothing is read or written. A further watcher is one box more here, in the order of `program_watchers`.
@@ -28,9 +30,26 @@ pub fn run_program<S: Shelf, K: Sink>(
     let Ok(series) = Box::new(alloc, Series::new(alloc)) else {
         return Status::Memory;
     };
+    let Ok(peak) = Box::new(alloc, Peak::new()) else {
+        return Status::Memory;
+    };
+    let Ok(occupancy) = Box::new(alloc, Occupancy::new()) else {
+        return Status::Memory;
+    };
     let mut watchers: Vec<Box<dyn Watcher>> = Vec::new(alloc);
     if watchers.push(series).is_err() {
         return Status::Memory;
     }
+    if watchers.push(peak).is_err() {
+        return Status::Memory;
+    }
+    if watchers.push(occupancy).is_err() {
+        return Status::Memory;
+    }
     run(alloc, words, shelf, sink, watchers)
 }
+
+/// What the program's watchers tell: true lines of one list of records, and of the peak and of the hours that it is so.
+pub fn watchers_tell()
+    ensures { WatchersTell }
+{}

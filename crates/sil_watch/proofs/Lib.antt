@@ -3,3 +3,5 @@ pub mod FixedBy
 pub mod Lists
 pub mod Folds
 pub mod Pieces
+pub mod Peaks
+pub mod Hours

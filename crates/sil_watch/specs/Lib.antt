@@ -3,4 +3,6 @@ pub mod Watching
 pub mod Records
 pub mod Lines
 pub mod Series
+pub mod Peak
+pub mod Occupancy
 pub mod FixedBy

@@ -8,12 +8,18 @@ ghost use Rattle.sil_watch.specs.Kinds.{holds, no_kinds, with_kind};
 pub enum WatcherKind {
     /// The series of the phases.
     Series,
+    /// The phase at whose end the chance of being down is greatest.
+    Peak,
+    /// The hours in each band.
+    Occupancy,
 }
 
 /// A set of kinds of watchers.
 #[derive(Clone, Copy, Debug, PartialEq, Eq)]
 pub struct WatchSet {
     series: bool,
+    peak: bool,
+    occupancy: bool,
 }
 
 impl WatchSet {
@@ -21,7 +27,11 @@ impl WatchSet {
     pub fn empty() -> WatchSet
         ensures { result ≡ no_kinds }
     {
-        WatchSet { series: false }
+        WatchSet {
+            series: false,
+            peak: false,
+            occupancy: false,
+        }
     }
 
     /// This kind alone.
@@ -39,6 +49,8 @@ impl WatchSet {
     {
         match kind {
             WatcherKind::Series => self.series = true,
+            WatcherKind::Peak => self.peak = true,
+            WatcherKind::Occupancy => self.occupancy = true,
         }
     }
 
@@ -48,6 +60,8 @@ impl WatchSet {
     {
         match kind {
             WatcherKind::Series => self.series,
+            WatcherKind::Peak => self.peak,
+            WatcherKind::Occupancy => self.occupancy,
         }
     }
 }

@@ -2,15 +2,14 @@
 
 ghost use Rattle.std.specs.Prelude.{◌≡◌, [], ◌∷◌, ◌++◌, OnOk, OnErr, IfOk, codes};
 ghost use Rattle.sil_watch.specs.FixedBy.{LinesFixRecords};
-ghost use Rattle.sil_watch.specs.Lines.{interval_text, line_of_record};
+ghost use Rattle.sil_watch.specs.Lines.{line_of_record};
 ghost use Rattle.sil_watch.specs.Series.{series_value};
 ghost use Rattle.sil_watch.specs.Watching.{fed_with};
 
 use crate::kind::WatcherKind;
+use crate::lines::push_interval;
 use crate::record::PhaseRecord;
 use crate::watcher::Watcher;
-use sil_model::Decimal18;
-use sil_text::put_decimal18;
 use std::alloc::{AllocError, Global};
 use std::marker::Model;
 
@@ -84,17 +83,6 @@ fn line(alloc: Global, rec: &PhaseRecord) -> Result<Vec<u8>, AllocError>
     push_interval(&mut text, b" end ", rec.at_end)?;
     text.extend_from_slice(b"\n")?;
     Ok(text)
-}
-
-/// Adds the two ends of an interval, after its name.
-fn push_interval(text: &mut Vec<u8>, name: &[u8], interval: Decimal18) -> Result<(), AllocError>
-    ensures { OnOk result (text.new.items ≡ text.old.items ++ (name.now ++ interval_text interval.lo interval.hi)) }
-{
-    text.extend_from_slice(name)?;
-    text.extend_from_slice(&put_decimal18(interval.lo))?;
-    text.extend_from_slice(b" .. ")?;
-    text.extend_from_slice(&put_decimal18(interval.hi))?;
-    Ok(())
 }
 
 /// One line stands for one record: its numbers are read back from it, whatever comes behind it.

@@ -12,8 +12,8 @@ once : (m : Matrix) → EachRowAtMost m (2 ^ 48) → EachRowAtMost m (1 * 2 ^ 48
 once m rows = record { row = λ k h. omega (arith, rows.row k h) }
 
 -- no entry is greater than a second factor of a product may be
-pub entries_of_rows : (m : Matrix) → EachRowAtMost m (2 ^ 48) → EachEntryAtMost m (2 ^ 68)
-entries_of_rows m rows = dwell_entries m 1 (omega arith) (once m rows)
+pub entries_small : (m : Matrix) → EachRowAtMost m (2 ^ 48) → EachEntryAtMost m (2 ^ 68)
+entries_small m rows = dwell_entries m 1 (omega arith) (once m rows)
 
 module _ (c : ChainValue) (order : ℕ) where
   pub power_of_rows : (m : Matrix) → m.size ≡ states_of c.of.subsystems → ((k : ℕ) → k < states_of c.of.subsystems → IsRow c order k (row_of m k)) → IsSparePower c order 1 m

@@ -20,7 +20,7 @@ use uniformise::Workspace;
 /// Makes `beat` the matrix of one beat: row i is what becomes of the whole at state i. `end` and `dwell` are room for rows.
 pub fn make_beat<L: Ledger>(
     beat: &mut Dense,
-    end: &mut [u128],
+    end: &mut [u64],
     dwell: &mut [u128],
     work: &mut Workspace,
     chain: &Chain,
@@ -44,7 +44,7 @@ pub fn make_beat<L: Ledger>(
 /// Makes `end` the vector after one beat of the whole at state i. `dwell` is room for what it dwells.
 fn beat_from<L: Ledger>(
     i: usize,
-    end: &mut [u128],
+    end: &mut [u64],
     dwell: &mut [u128],
     work: &mut Workspace,
     chain: &Chain,
@@ -60,7 +60,7 @@ fn beat_from<L: Ledger>(
     ensures steps { steps.new ≤ steps.old + beat_products chain.now.of.subsystems weights.now }
 {
     end.fill(0);
-    end[i] = ONE;
+    end[i] = ONE as u64;
     dwell.fill(0);
     work.beat(chain, weights, end, dwell, steps);
 }

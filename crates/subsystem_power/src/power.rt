@@ -3,6 +3,7 @@
 ghost use Rattle.std.specs.Prelude.{◌≡◌, ◌+◌, ◌^◌, ◌<◌, ◌≤◌, length, replicate, slice_index_or, IfOk, IsTrue};
 ghost use Rattle.sil_model.specs.Sizes.{states_of, most_states};
 ghost use Rattle.sil_model.specs.declared.parts.Subsystem.{Subsystem};
+ghost use Rattle.vector_laws.specs.Matrix.{most_rows};
 ghost use Rattle.product_chain.specs.Kept.{IsTimed};
 ghost use Rattle.subsystem_power.specs.Powers.{alone_of, IsPowerOf, begin_products};
 
@@ -28,7 +29,7 @@ pub struct SubsystemPower {
     space: Space,
     chain: Chain,
     work: Workspace,
-    end: Vec<u128>,
+    end: Vec<u64>,
     dwell: Vec<u128>,
     beat: Dense,
     sixteen: Dense,
@@ -64,7 +65,7 @@ impl SubsystemPower {
         beats: u64,
     ) -> Result<SubsystemPower, AllocError>
         requires i { i < length l.now.subsystems }
-        requires few { (d : Subsystem) → states_of (alone_of l.now (slice_index_or l.now.subsystems i d)).subsystems ≤ 64 }
+        requires few { (d : Subsystem) → states_of (alone_of l.now (slice_index_or l.now.subsystems i d)).subsystems ≤ most_rows }
         requires timed { (d : Subsystem) → IsTimed (alone_of l.now (slice_index_or l.now.subsystems i d)).subsystems hours beats }
         ensures { (d : Subsystem) → IfOk result (λ p. p ≡ record { chain = record { of = alone_of l.now (slice_index_or l.now.subsystems i d); hours = hours; beats = beats }; power = 0 }) }
     {
@@ -73,7 +74,7 @@ impl SubsystemPower {
         let size = space.size();
         let chain = Chain::new(alloc, &alone, &space, hours, beats)?;
         let work = Workspace::new(alloc, size)?;
-        let end = vec![in alloc; 0u128; size]?;
+        let end = vec![in alloc; 0u64; size]?;
         let dwell = vec![in alloc; 0u128; size]?;
         let beat = Dense::new(alloc, size)?;
         let sixteen = Dense::new(alloc, size)?;
@@ -96,11 +97,11 @@ impl SubsystemPower {
         })
     }
 
-    /// How many count vectors the subsystem has, from 1 to 64.
+    /// How many count vectors the subsystem has, from 1 to [`dense_power::MOST_ROWS`].
     pub fn size(&self) -> usize
         ensures size { result ≡ states_of self.now.chain.of.subsystems }
         ensures some { 1 ≤ result }
-        ensures few { result ≤ 64 }
+        ensures few { result ≤ most_rows }
     {
         self.beat.size()
     }

@@ -116,8 +116,7 @@ fn all_tables(
     requires length { length counts.old ≡ CHANNEL_STATES * length (groups_of l.now.subsystems) }
     ensures { IfOk result (λ v. AreAllTables l.now.subsystems v.items) }
 {
-    // The values of a loop are in their ranges.
-    let _ = l.len();
+    l.values_are_in_range();
     let count = l.groups();
     let mut tables = Vec::with_capacity(alloc, count)?;
     for g in 0..count {

@@ -1,5 +1,5 @@
 -- A tick of a vector of one place, as the tests have it.
-use Rattle.std.proofs.Common.{◌≡◌, ℕ, ◌+◌, ◌*◌, ◌/◌, ◌^◌, ◌≤◌, List, length, sum, slice_index, set, sym, ap, ◌∙◌, arith, refl, ◌<◌, get_or-set_same}
+use Rattle.std.proofs.Common.{◌≡◌, ℕ, ◌*◌, ◌/◌, ◌^◌, ◌≤◌, List, length, sum, slice_index, set, sym, ap, ◌∙◌, arith, refl, ◌<◌, get_or-set_same}
 use Rattle.std.proofs.Math.Nat.{div-mul-le_self, mul-le-mul_left}
 use Rattle.std.proofs.Math.ListN.{length-set}
 use Rattle.sil_fraction.specs.Fraction.{Fraction, ◌*ℚ◌, ◌≤ℚ◌, whole, inverse}

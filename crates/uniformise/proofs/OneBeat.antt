@@ -20,7 +20,7 @@ use Rattle.vector_laws.specs.BlockLaws.{EndsLaw, DwellLaw}
 use Rattle.vector_laws.proofs.Blocks.{ends_law, dwell_law}
 use Rattle.vector_laws.proofs.Ticks.{gathered_same}
 use Rattle.sil_model.specs.WeightTable.{weight_of, mean_weight_of}
-use Rattle.series_weights.proofs.Sums.{means_within, mean_last}
+use Rattle.series_weights.proofs.Sums.{means_within, mean_last, sum_weights_le}
 use Rattle.sil_fraction.proofs.Sums.{sum-next}
 use Rattle.uniformise.specs.Beat.{hours_of_beat, IsStep, tick_loss, vector_loss, dwell_loss}
 use Rattle.uniformise.proofs.Beats.{weights_stay, mean_is_tail, weights_lack, means_lack}
@@ -47,6 +47,12 @@ module _ (c : ChainValue) (order : ℕ) (from : 16 ≤ order) (upto : order ≤ 
 
   linear : IsLinear step
   linear = (linear_laws c.of.subsystems).tick (hours_of_beat c)
+
+  -- no sum is above 1
+  pub sums_small : (sums : List ℕ) → Gathered sums weight_of → (k : ℕ) → k < length sums → slice_index sums k ≤ 2 ^ 96
+  sums_small sums gathered k h =
+      let all : sum_below (order + 1) weight_of ≤ 2 ^ 48 = sum_weights_le (order + 1) (omega arith) in
+      omega (arith, place-le sums k, gathered.most, mul-le-mul_left (sum v) all, full)
 
   -- the vector, rounded down from its sums
   pub end_of_beat : (sums after : List ℕ) → Gathered sums weight_of → AreFloors (2 ^ 48) sums after → length after ≡ states_of c.of.subsystems

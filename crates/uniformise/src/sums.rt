@@ -7,12 +7,7 @@ use sil_model::Steps;
 use std::sync::ledger::Ledger;
 
 /// Adds a multiple of a vector to the sums.
-pub fn add_products<L: Ledger>(
-    sums: &mut [u128],
-    weight: u64,
-    vector: &[u64],
-    steps: &mut Steps<L>,
-)
+pub fn add_products<L: Ledger>(sums: &mut [u128], weight: u64, vector: &[u64], steps: &mut Steps<L>)
     requires size { length sums.old ≡ length vector.now }
     requires mass { sum vector.now ≤ 2 ^ 48 }
     requires room { sum sums.old + weight * sum vector.now < 2 ^ 128 }

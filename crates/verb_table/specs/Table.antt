@@ -2,7 +2,7 @@
 use Rattle.std.specs.Prelude.{codes, ◌≡◌, ℕ, Bool, true, false, List, [], ◌∷◌, Option, Some, find}
 use Rattle.std.specs.List.{list_any}
 use Rattle.std.specs.Str.{bytes_eq}
-use Rattle.sil_watch.specs.declared.kind.WatcherKind.TheVariants.{Series}
+use Rattle.sil_watch.specs.declared.kind.WatcherKind.TheVariants.{Series, Peak, Occupancy}
 use Rattle.verb_table.specs.declared.rows.Meaning.{Meaning}
 use Rattle.verb_table.specs.declared.rows.Meaning.TheVariants.{Need, Mode, Watch}
 use Rattle.verb_table.specs.declared.verb.Positional.{Positional}
@@ -45,9 +45,15 @@ mode = record { name = codes "mode"; values = one_of (codes "low" ∷ codes "hig
 abbrev pub series : Choice
 series = record { name = codes "series"; values = nothing; is_required = false; meaning = Watch Series }
 
+abbrev pub peak : Choice
+peak = record { name = codes "peak"; values = nothing; is_required = false; meaning = Watch Peak }
+
+abbrev pub occupancy : Choice
+occupancy = record { name = codes "occupancy"; values = nothing; is_required = false; meaning = Watch Occupancy }
+
 -- the options and flags of a verb that answers with a loop's figures
 abbrev pub of_figures : List Choice
-of_figures = need ∷ mode ∷ series ∷ []
+of_figures = need ∷ mode ∷ series ∷ peak ∷ occupancy ∷ []
 
 -- the row of each verb
 

@@ -66,12 +66,29 @@ const SERIES: ChoiceRow = ChoiceRow {
     meaning: Meaning::Watch(WatcherKind::Series),
 };
 
+const PEAK: ChoiceRow = ChoiceRow {
+    name: "peak",
+    values: Values::Nothing,
+    is_required: false,
+    meaning: Meaning::Watch(WatcherKind::Peak),
+};
+
+const OCCUPANCY: ChoiceRow = ChoiceRow {
+    name: "occupancy",
+    values: Values::Nothing,
+    is_required: false,
+    meaning: Meaning::Watch(WatcherKind::Occupancy),
+};
+
+/// The options and flags of a verb that answers with a loop's figures.
+const OF_FIGURES: &[ChoiceRow] = &[NEED, MODE, SERIES, PEAK, OCCUPANCY];
+
 static ROWS: [VerbRow; 4] = [
     VerbRow {
         verb: Verb::Check,
         word: "check",
         positional: Positional::Name,
-        choices: &[NEED, MODE, SERIES],
+        choices: OF_FIGURES,
     },
     VerbRow {
         verb: Verb::Size,
@@ -89,7 +106,7 @@ static ROWS: [VerbRow; 4] = [
         verb: Verb::Bench,
         word: "bench",
         positional: Positional::Number,
-        choices: &[NEED, MODE, SERIES],
+        choices: OF_FIGURES,
     },
 ];
 

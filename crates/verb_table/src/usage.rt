@@ -8,9 +8,9 @@ ghost use Rattle.verb_table.specs.Usage.{usage_text};
 pub fn usage_text() -> &'static [u8]
     ensures { result.now ≡ usage_text verb_table }
 {
-    b"usage: sil check NAME [--need 1|2|3|4] [--mode low|high|both] [--series]
+    b"usage: sil check NAME [--need 1|2|3|4] [--mode low|high|both] [--series] [--peak] [--occupancy]
        sil size NAME
        sil gen NUMBER
-       sil bench NUMBER [--need 1|2|3|4] [--mode low|high|both] [--series]
+       sil bench NUMBER [--need 1|2|3|4] [--mode low|high|both] [--series] [--peak] [--occupancy]
 "
 }

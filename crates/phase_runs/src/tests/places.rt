@@ -5,7 +5,7 @@ ghost use Rattle.std.specs.Prelude.{◌≡◌, ◌<◌};
 use super::years::assert_year;
 use beat_ladder::Ladder;
 use lumping::Space;
-use phase_run::{PlaceRoom, run_phase_by_ladder};
+use phase_run::{LadderRoom, Phase, run_phase_by_ladder};
 use product_chain::Chain;
 use sample_loops::{ONE_CHANNEL, Sample, sample_loop};
 use series_weights::Weights;
@@ -29,23 +29,19 @@ fn one_year<L: Ledger>(rt: &impl Abort, alloc: Global, steps: &mut Steps<L>) -> 
     let chain = Chain::new(alloc, &l, &space, 8760, 1096)?;
     let weights = Weights::new(28);
     let ladder = Ladder::new(alloc, 0)?;
-    let mut places = PlaceRoom::new(alloc, &l, &chain, 4)?;
+    let mut room = LadderRoom::new(alloc, &l, &chain, 4, ladder)?;
     let mut work = Workspace::new(alloc, 4)?;
     let mut v = [1 << 48, 0, 0, 0];
     let mut mean = [7; 4];
     let mut hours = [1; 4];
+    let phase = Phase {
+        chain: &chain,
+        weights: &weights,
+        hours: 8760,
+        beats: 1096,
+    };
     run_phase_by_ladder(
-        &ladder,
-        &mut places,
-        &mut work,
-        &chain,
-        &weights,
-        1096,
-        8760,
-        &mut v,
-        &mut mean,
-        &mut hours,
-        steps,
+        &mut room, &mut work, &phase, &mut v, &mut mean, &mut hours, steps,
     );
     assert_year(rt, &v, &mean, &hours);
     Ok(())
@@ -84,26 +80,22 @@ fn all_in_repair<L: Ledger>(
     let chain = Chain::new(alloc, &l, &space, 2000, 336)?;
     let weights = Weights::new(28);
     let ladder = Ladder::new(alloc, 336)?;
-    let mut places = PlaceRoom::new(alloc, &l, &chain, 100)?;
+    let mut room = LadderRoom::new(alloc, &l, &chain, 100, ladder)?;
     let mut work = Workspace::new(alloc, 100)?;
     let mut v = [0; 100];
     v[99] = 1 << 48;
     let mut mean = [0; 100];
     let mut hours = [0; 100];
+    let phase = Phase {
+        chain: &chain,
+        weights: &weights,
+        hours: 2000,
+        beats: 336,
+    };
     run_phase_by_ladder(
-        &ladder,
-        &mut places,
-        &mut work,
-        &chain,
-        &weights,
-        336,
-        2000,
-        &mut v,
-        &mut mean,
-        &mut hours,
-        steps,
+        &mut room, &mut work, &phase, &mut v, &mut mean, &mut hours, steps,
     );
-    let exact: [(usize, u128); 3] = [
+    let exact: [(usize, u64); 3] = [
         (0, 39_024_302_590_266),
         (1, 131_563_425_533_455),
         (4, 110_885_613_510_068),

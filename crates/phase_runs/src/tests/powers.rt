@@ -1,12 +1,13 @@
 //! A phase of one channel that is never tested, against the exponential, and the greatest size.
 
-ghost use Rattle.std.specs.Prelude.{◌≡◌, ◌<◌, Some};
+ghost use Rattle.std.specs.Prelude.{◌≡◌, ◌<◌, ◌≤◌, Some};
 ghost use Rattle.sil_model.specs.Sizes.{states_of};
 ghost use Rattle.phase_powers.specs.Kept.{IsOfNoOther};
 
 use super::years::assert_year;
 use lumping::Space;
 use phase_powers::{Powers, run_phase_powered};
+use phase_run::Phase;
 use product_chain::Chain;
 use sample_loops::{ONE_CHANNEL, sample_loop};
 use series_weights::Weights;
@@ -24,25 +25,23 @@ fn pass_year<L: Ledger>(
     rt: &impl Abort,
     powers: &mut Powers,
     work: &mut Workspace,
-    chain: &Chain,
-    weights: &Weights,
+    phase: &Phase<'_>,
     steps: &mut Steps<L>,
 )
-    requires beats { chain.now.beats ≡ 1096 }
-    requires hours { chain.now.hours ≡ 8760 }
-    requires states { states_of chain.now.of.subsystems ≡ 4 }
+    requires beats { phase.now.beats ≡ phase.now.chain.now.beats }
+    requires hours { phase.now.hours ≡ phase.now.chain.now.hours }
+    requires year { phase.now.hours ≤ 8760 }
+    requires states { states_of phase.now.chain.now.of.subsystems ≡ 4 }
     requires size { powers.old.size ≡ 4 }
-    requires same { IsOfNoOther powers.old.of chain.now.of }
+    requires same { IsOfNoOther powers.old.of phase.now.chain.now.of }
     requires work { work.old ≡ 4 }
-    ensures powers { powers.new ≡ record { size = 4; of = Some chain.now.of } }
+    ensures powers { powers.new ≡ record { size = 4; of = Some phase.now.chain.now.of } }
     ensures work { work.new ≡ 4 }
 {
     let mut v = [1 << 48, 0, 0, 0];
     let mut mean = [7; 4];
     let mut hours = [1; 4];
-    run_phase_powered(
-        powers, work, chain, weights, 1096, 8760, &mut v, &mut mean, &mut hours, steps,
-    );
+    run_phase_powered(powers, work, phase, &mut v, &mut mean, &mut hours, steps);
     assert_year(rt, &v, &mean, &hours);
 }
 
@@ -64,8 +63,14 @@ fn one_year<L: Ledger>(rt: &impl Abort, alloc: Global, blank: Blank) -> Result<(
     let weights = Weights::new(28);
     let mut work = Workspace::new(alloc, 4)?;
     let mut powers = Powers::new(alloc, 4)?;
-    pass_year(rt, &mut powers, &mut work, &chain, &weights, &mut steps);
-    pass_year(rt, &mut powers, &mut work, &chain, &weights, &mut steps);
+    let phase = Phase {
+        chain: &chain,
+        weights: &weights,
+        hours: 8760,
+        beats: 1096,
+    };
+    pass_year(rt, &mut powers, &mut work, &phase, &mut steps);
+    pass_year(rt, &mut powers, &mut work, &phase, &mut steps);
     Ok(())
 }
 

@@ -1,10 +1,11 @@
 //! A phase of two channels that are never tested, against the exponential.
 
-ghost use Rattle.std.specs.Prelude.{◌≡◌, ◌<◌};
+ghost use Rattle.std.specs.Prelude.{◌≡◌, ◌<◌, ◌≤◌};
 ghost use Rattle.sil_model.specs.Sizes.{states_of};
 ghost use Rattle.phase_separate.specs.Losses.{LoseLittle};
 
 use lumping::Space;
+use phase_run::Phase;
 use phase_separate::{Extent, SeparateRoom, run_phase_separately};
 use product_chain::Chain;
 use sample_loops::{ONE_CHANNEL, sample_loop};
@@ -21,22 +22,25 @@ use uniformise::Workspace;
 /// How many beats the year has.
 const BEATS: u64 = 2_200;
 
+/// What they may lose, 260 units each.
+const LOSS: u64 = 572_000;
+
 /// A phase of a year, against the exact numbers, rounded down: with `e = exp(-x)` for x = 0.00876, both channels work with the
 /// chance e * e, one alone with e * (1 - e), none with the rest; and what these come to on average over the year.
 fn pass_year<L: Ledger>(
     rt: &impl Abort,
     room: &mut SeparateRoom,
     work: &mut Workspace,
-    chain: &Chain,
-    weights: &Weights,
+    phase: &Phase<'_>,
     steps: &mut Steps<L>,
 )
-    requires beats { chain.now.beats ≡ 2_200 }
-    requires hours { chain.now.hours ≡ 8760 }
-    requires states { states_of chain.now.of.subsystems ≡ 16 }
-    requires room { room.old ≡ chain.now.of }
+    requires beats { phase.now.beats ≡ phase.now.chain.now.beats }
+    requires hours { phase.now.hours ≡ phase.now.chain.now.hours }
+    requires year { phase.now.hours ≤ 8760 }
+    requires states { states_of phase.now.chain.now.of.subsystems ≡ 16 }
+    requires room { room.old ≡ phase.now.chain.now.of }
     requires work { work.old ≡ 16 }
-    requires little { LoseLittle chain.now.of.subsystems 2_200 }
+    requires little { LoseLittle phase.now.chain.now.of.subsystems phase.now.beats }
     ensures room { room.new ≡ room.old }
     ensures work { work.new ≡ 16 }
 {
@@ -44,12 +48,9 @@ fn pass_year<L: Ledger>(
     v[0] = 1 << 48;
     let mut mean = [7; 16];
     let mut hours = [1; 16];
-    run_phase_separately(
-        room, work, chain, weights, BEATS, 8760, &mut v, &mut mean, &mut hours, steps,
-    );
-    // 2200 beats of 260 units each
-    let loss = 572_000;
-    let exact: [(usize, u128, u128, u128); 4] = [
+    run_phase_separately(room, work, phase, &mut v, &mut mean, &mut hours, steps);
+    let loss = u128::from(LOSS);
+    let exact: [(usize, u64, u128, u128); 4] = [
         (
             0,
             276_586_483_363_515,
@@ -72,7 +73,7 @@ fn pass_year<L: Ledger>(
     ];
     for k in 0..4 {
         let (place, end, middle, dwelt) = exact[k];
-        assert!(rt; v[place] <= end && end - v[place] <= loss, "end of {place}");
+        assert!(rt; v[place] <= end && end - v[place] <= LOSS, "end of {place}");
         assert!(rt;
             mean[place] <= middle && middle - mean[place] <= loss + 16,
             "mean of {place}"
@@ -113,8 +114,14 @@ fn one_year<L: Ledger>(rt: &impl Abort, alloc: Global, blank: Blank) -> Result<(
     // of 12 binary digits: 2 * (4 * (4 * (16 * 8 + 33)) + 4 * 64) to begin, and so on, worked out by hand
     assert_eq!(rt; extent.products(12), 5_664 + 24 * (128 + 128) + 384 + 4_368);
     let mut room = SeparateRoom::new(alloc, &l, 16, 8760, BEATS)?;
-    pass_year(rt, &mut room, &mut work, &chain, &weights, &mut steps);
-    pass_year(rt, &mut room, &mut work, &chain, &weights, &mut steps);
+    let phase = Phase {
+        chain: &chain,
+        weights: &weights,
+        hours: 8760,
+        beats: BEATS,
+    };
+    pass_year(rt, &mut room, &mut work, &phase, &mut steps);
+    pass_year(rt, &mut room, &mut work, &phase, &mut steps);
     Ok(())
 }
 

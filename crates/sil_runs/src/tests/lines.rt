@@ -24,6 +24,8 @@ check one --need 3 --mode high => 1 mission 8760;
 check --need=2 --mode both one => 0 mission 8760;
 check --need=3 --mode=both one => 1 mission 8760;
 check one --series --need 2 => 0 mission 8760;
+check one --peak --need 3 => 1 mission 8760;
+check --occupancy one --peak=1 => 2 usage: sil check NAME
 check one --mode high => 0 mission 8760;
 check one --need 2 --need 2 => 2 usage: sil check NAME
 check three --need 4 => 0 mission 240;
@@ -44,6 +46,8 @@ size -- -x => 0 mission 8760;
 size large => 3 refused: 1000004 beats, limit 1000000;
 size other => 4 
 size one --series => 2 usage: sil check NAME
+size one --peak => 2 usage: sil check NAME
+gen 7 --occupancy => 2 usage: sil check NAME
 size one --need 1 => 2 usage: sil check NAME
 check => 2 usage: sil check NAME
  => 2 usage: sil check NAME
@@ -66,10 +70,11 @@ report one => 2 usage: sil check NAME
 ";
 
 /// The usage text.
-const USAGE: &str = "usage: sil check NAME [--need 1|2|3|4] [--mode low|high|both] [--series]
+const USAGE: &str =
+    "usage: sil check NAME [--need 1|2|3|4] [--mode low|high|both] [--series] [--peak] [--occupancy]
        sil size NAME
        sil gen NUMBER
-       sil bench NUMBER [--need 1|2|3|4] [--mode low|high|both] [--series]
+       sil bench NUMBER [--need 1|2|3|4] [--mode low|high|both] [--series] [--peak] [--occupancy]
 ";
 
 /// Whether the run of this row ends as the row says.

@@ -7,9 +7,11 @@ mod files;
 mod lines;
 mod program;
 mod refusals;
+mod refuser;
 mod reports;
 mod series;
 mod sizes;
+mod watchers;
 mod whole_runs;
 mod years;
 

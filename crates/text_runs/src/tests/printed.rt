@@ -43,10 +43,10 @@ fn limits_usage_and_sizes(rt: HostRuntime) -> Result<(), Fail> {
         "refused: file longer than 65536 bytes\n".as_bytes()
     );
     let lines = [
-        "usage: sil check NAME [--need 1|2|3|4] [--mode low|high|both] [--series]\n",
+        "usage: sil check NAME [--need 1|2|3|4] [--mode low|high|both] [--series] [--peak] [--occupancy]\n",
         "       sil size NAME\n",
         "       sil gen NUMBER\n",
-        "       sil bench NUMBER [--need 1|2|3|4] [--mode low|high|both] [--series]\n",
+        "       sil bench NUMBER [--need 1|2|3|4] [--mode low|high|both] [--series] [--peak] [--occupancy]\n",
     ];
     let mut text = String::new(alloc);
     for line in lines {

@@ -6,10 +6,10 @@ use verb_table::{Positional, Values, Verb, row_of_word, verb_rows};
 #[test]
 fn rows_and_values(rt: HostRuntime) {
     let verbs = [
-        ("check", Verb::Check, Positional::Name, 3),
+        ("check", Verb::Check, Positional::Name, 5),
         ("size", Verb::Size, Positional::Name, 0),
         ("gen", Verb::Gen, Positional::Number, 0),
-        ("bench", Verb::Bench, Positional::Number, 3),
+        ("bench", Verb::Bench, Positional::Number, 5),
     ];
     assert_eq!(rt; verb_rows().len(), verbs.len());
     for (word, verb, positional, choices) in verbs {

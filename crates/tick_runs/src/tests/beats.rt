@@ -36,7 +36,7 @@ fn one_beat<L: Ledger>(rt: &impl Abort, alloc: Global, blank: Blank) -> Result<(
     let mut v = [1 << 47, 0, 0, 1 << 47];
     let mut dwell = [0; 4];
     work.beat(&chain, &weights, &mut v, &mut dwell, &mut steps);
-    let exact: [(u128, u128); 4] = [
+    let exact: [(u64, u128); 4] = [
         (229_651_748_729_926, 192_477_265_333_236),
         (1_538_413_179, 710_946_913),
         (0, 0),

@@ -1,7 +1,8 @@
 //! Whether the entries of a matrix and the numbers of a vector are within what is required of them.
 
-ghost use Rattle.std.specs.Prelude.{◌≡◌, ℕ, ◌<◌, ◌≤◌, ◌^◌, IsTrue, sum};
+ghost use Rattle.std.specs.Prelude.{◌≡◌, ℕ, ◌<◌, ◌≤◌, IsTrue};
 ghost use Rattle.vector_laws.specs.Matrix.{entry_of, EachEntryAtMost};
+ghost use Rattle.vector_laws.specs.Vectors.{IsMass};
 
 use dense_power::Dense;
 use interval_fixed::ONE;
@@ -32,12 +33,12 @@ pub(crate) fn is_small(m: &Dense, most: u128) -> bool
 }
 
 /// Whether the numbers of a vector come to 1 at most.
-pub(crate) fn is_mass(v: &[u128]) -> bool
-    ensures { IsTrue result → sum v.now ≤ 2 ^ 48 }
+pub(crate) fn is_mass(v: &[u64]) -> bool
+    ensures { IsTrue result → IsMass v.now }
 {
     let mut total = 0;
     for x in v {
-        if *x > ONE - total {
+        if *x > super::ONE - total {
             return false;
         }
         total += *x;

@@ -3,8 +3,8 @@
 ghost use Rattle.std.specs.Prelude.{◌≡◌, ◌<◌};
 ghost use Rattle.test_matrix.specs.HourTests.{Exist};
 
+use super::ONE;
 use super::entries::is_mass;
-use interval_fixed::ONE;
 use lumping::{Space, state_count};
 use sample_loops::{ONE_CHANNEL, Sample, sample_loop};
 use sil_model::{ChannelFigures, InRepair, Loop, Steps, TestPlan, Vote};
@@ -48,7 +48,7 @@ fn apply_after<L: Ledger>(
     alloc: Global,
     l: &Loop,
     phase: usize,
-    v: &mut [u128],
+    v: &mut [u64],
     steps: &mut Steps<L>,
 ) -> Result<(u128, u128), Fail> {
     let plan = plan(alloc, l)?;
@@ -62,7 +62,7 @@ fn apply<L: Ledger>(
     alloc: Global,
     l: &Loop,
     hour: &[GroupTest],
-    v: &mut [u128],
+    v: &mut [u64],
     steps: &mut Steps<L>,
 ) -> Result<(u128, u128), Fail>
     requires { Exist l.now.subsystems hour.now }
@@ -79,7 +79,7 @@ fn apply<L: Ledger>(
 
 /// Whether each number is no more than what is expected at its place, 0 where nothing is said, and no less by more than so
 /// much.
-fn is_just_below(v: &[u128], expected: &[(usize, u128)], lack: u128) -> bool {
+fn is_just_below(v: &[u64], expected: &[(usize, u64)], lack: u64) -> bool {
     for j in 0..v.len() {
         let mut most = 0;
         for &(place, x) in expected {
@@ -111,7 +111,7 @@ fn one_channel<L: Ledger>(
         (0, [0, 0, ONE, 0], [0, 0, ONE, 0], (0, 0)),
         (1, [0, 0, ONE, 0], [0, 0, 0, ONE], (0, 0)),
         (1, [0, 0, 0, ONE], [0, 0, 0, ONE], (0, 0)),
-        (2, [5, 6, 7, 8], [5, 6, 7, 8], (0, ONE - 26)),
+        (2, [5, 6, 7, 8], [5, 6, 7, 8], (0, u128::from(ONE) - 26)),
     ];
     for (phase, before, after, passed) in cases {
         let mut v = before;

@@ -11,22 +11,22 @@ use Rattle.beat_ladder.proofs.Passes.{passed_after, passed_most, passed_least, p
 use Rattle.beat_ladder.proofs.room.pass_within.Given.{Over}
 use Rattle.beat_ladder.proofs.room.pass_within.Goals as goal
 
-module _ (g : Over) (c : goal.After-slice_known-17-1 g) where
+module _ (g : Over) (c : goal.After-slice_known-13-1 g) where
   abbrev B : (Values ℕ → Values ℕ) → Type 0
-  B T = IsStep (g.T.Tick.step c.args.tick.now) T
+  B T = IsStep (g.T.Tick.step c.args.block.tick.now) T
 
   abbrev loss : ℕ
-  loss = g.T.Tick.loss c.args.tick.now
+  loss = g.T.Tick.loss c.args.block.tick.now
 
   abbrev r : Rung
-  r = c.args.rung.now
+  r = c.args.block.rung.now
 
   ends_gathered : IsGathered B loss c.args.v.now c.gather.new.ends (power_of r.exponent) (r.low + length r.numbers.items)
-  ends_gathered = rw c.copy_from_slice.ensures.after at c.gather.ensures.ends
+  ends_gathered = c.gather.ensures.ends
 
   stays_gathered : IsGathered B loss c.args.v.now c.gather.new.stays (tail r.exponent r.low r.numbers.items r.tails.items r.held r.tailed)
       (r.low + length r.numbers.items)
-  stays_gathered = rw c.copy_from_slice.ensures.after at c.gather.ensures.stays
+  stays_gathered = c.gather.ensures.stays
 
   floors : AreFloors (2 ^ 48) c.gather.new.ends c.round_down.new.to
   floors = c.round_down.ensures
@@ -38,10 +38,10 @@ module _ (g : Over) (c : goal.After-slice_known-17-1 g) where
       ≡ slice_index c.args.dwell.now k + slice_index c.gather.new.stays k / 2 ^ 48
   added = c.add_rounded_down.ensures.added
 
-  size : length c.round_down.new.to ≡ g.T.Tick.size c.args.tick.now
+  size : length c.round_down.new.to ≡ g.T.Tick.size c.args.block.tick.now
   size = omega (arith, floors.same_length)
 
-  dwell_size : length c.add_rounded_down.new.to ≡ g.T.Tick.size c.args.tick.now
+  dwell_size : length c.add_rounded_down.new.to ≡ g.T.Tick.size c.args.block.tick.now
   dwell_size = omega (arith, c.add_rounded_down.ensures.size, c.requires.dwell)
 
 pub returns-clause-after : goal.returns-clause-after
@@ -87,17 +87,17 @@ returns-clause-grows g c =
 
 pub returns-clause-steps : goal.returns-clause-steps
 returns-clause-steps g c =
-    let r = c.args.rung.now in
-    passed_products (IsStep (g.T.Tick.step c.args.tick.now)) (g.T.Tick.loss c.args.tick.now) c.args.v.now r.exponent r.low r.numbers.items r.tails.items
-    r.held r.tailed c.args.steps.now c.gather.new.steps (g.T.Tick.products c.args.tick.now) (g.T.Tick.size c.args.tick.now) c.gather.ensures.steps
+    let r = c.args.block.rung.now in
+    passed_products (IsStep (g.T.Tick.step c.args.block.tick.now)) (g.T.Tick.loss c.args.block.tick.now) c.args.v.now r.exponent r.low r.numbers.items r.tails.items
+    r.held r.tailed c.args.steps.now c.gather.new.steps (g.T.Tick.products c.args.block.tick.now) (g.T.Tick.size c.args.block.tick.now) c.gather.ensures.steps
 
 pub round_down-requires-clause-small : goal.round_down-requires-clause-small
 round_down-requires-clause-small g c =
-    let r : Rung = c.args.rung.now in
-    let gathered : IsGathered (IsStep (g.T.Tick.step c.args.tick.now)) (g.T.Tick.loss c.args.tick.now) c.args.v.now c.gather.new.ends (power_of r.exponent)
-    (r.low + length r.numbers.items) = rw c.copy_from_slice.ensures.after at c.gather.ensures.ends in
+    let r : Rung = c.args.block.rung.now in
+    let gathered : IsGathered (IsStep (g.T.Tick.step c.args.block.tick.now)) (g.T.Tick.loss c.args.block.tick.now) c.args.v.now c.gather.new.ends (power_of r.exponent)
+    (r.low + length r.numbers.items) = c.gather.ensures.ends in
     omega (
       arith,
-      ends_room r.exponent r.low r.numbers.items r.tails.items r.held r.tailed (IsStep (g.T.Tick.step c.args.tick.now)) (g.T.Tick.loss c.args.tick.now)
+      ends_room r.exponent r.low r.numbers.items r.tails.items r.held r.tailed (IsStep (g.T.Tick.step c.args.block.tick.now)) (g.T.Tick.loss c.args.block.tick.now)
           c.args.v.now c.requires.mass c.gather.new.ends (r.low + length r.numbers.items) gathered,
     )

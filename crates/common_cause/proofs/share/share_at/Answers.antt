@@ -14,7 +14,7 @@ loop-i-init c = record {
 
 pub overflow_add-first : goal.overflow_add-first
 overflow_add-first c =
-    let all = groups-within c.args.l.now c.mission.ensures.valid in
+    let all = groups-within c.args.l.now c.values_are_in_range.ensures in
     let within = groups_within c.args.l.now.subsystems c.loop-i.i c.loop-i.first (c.loop-i.invariant.at.0) c.subsystem.result.now
     c.subsystem.result.now (omega arith) (c.subsystem.ensures c.subsystem.result.now) (c.loop-i.invariant.at.1) in
     omega (arith, all.below, within, c.groups-first.ensures.groups c.loop-i.i)
@@ -38,7 +38,7 @@ loop-i-preserved c =
 pub sum_in-requires-clause-few : goal.sum_in-requires-clause-few
 sum_in-requires-clause-few c =
     let u : Subsystem = c.subsystem-u.result.now in
-    let r : IsSubsystemInRange u = in_range c.args.l.now.subsystems c.mission.ensures.valid.subsystems c.args.subsystem u c.requires.inside
+    let r : IsSubsystemInRange u = in_range c.args.l.now.subsystems c.values_are_in_range.ensures.subsystems c.args.subsystem u c.requires.inside
     (c.subsystem-u.ensures u) in
     let some : 1 ≤ u.vote.n = omega (arith, r.vote.some, r.vote.suffice) in
     omega (arith, c.groups.ensures.groups 0, by_test-few 0 u.vote.n u.test some, r.vote.few)

@@ -2,7 +2,7 @@ use Rattle.std.proofs.Common.{◌≡◌, ◌+◌, ◌*◌, ◌^◌, length, get_
 use Rattle.std.proofs.Math.Nat.{div-add-mod}
 use Rattle.sil_fraction.specs.Sum.{sum_below}
 use Rattle.sil_fraction.proofs.Sums.{sum-none}
-use Rattle.loop_value.proofs.Sides.{next_place}
+use Rattle.loop_value.proofs.Places.{next_place}
 use Rattle.loop_value.proofs.ends.entries.Goals as goal
 
 pub loop-i-init : goal.loop-i-init

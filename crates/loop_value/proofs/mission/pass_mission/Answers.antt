@@ -1,6 +1,7 @@
 use Rattle.std.proofs.Common.{◌≡◌, ℕ, ◌+◌, ◌-◌, ◌*◌, suc, length, get_or, List, refl, ap, ◌∙◌, arith}
 use Rattle.sil_model.specs.Calendar.{Phase, phases_of, beats_of}
 use Rattle.sil_model.specs.Figures.{no_phase}
+use Rattle.sil_model.specs.Sizes.{most_beats}
 use Rattle.schedule_laws.proofs.PhasesOfLoop.{length-phases_of}
 use Rattle.mission_laws.proofs.Losses.{beats-more, group_tests-more, group_tests-all}
 use Rattle.uniformise.specs.Beat.{beat_products}
@@ -61,7 +62,7 @@ returns-in_err-pass_to_next-clause-refused g c =
 pub pass_phase-requires-clause-few : goal.pass_phase-requires-clause-few
 pass_phase-requires-clause-few g c =
     let phases : c.phases-last.result ≡ length (phases_of c.args.l.now) = c.phases-last.ensures.phases ∙ ap (λ (ps : List Phase). length ps) c.requires.plan.phases in
-    few_beats c.args.l.now (c.phases-last.result - 1) c.hours.result 1_000_000 (omega (arith, phases, c.phases-last.ensures.some))
+    few_beats c.args.l.now (c.phases-last.result - 1) c.hours.result most_beats (omega (arith, phases, c.phases-last.ensures.some))
     (hours-at c.args.plan.now.phases c.args.l.now (c.phases-last.result - 1) c.hours.result (c.hours.ensures.hours no_phase) c.requires.plan.phases) c.requires.few
 
 pub pass_phase-requires-clause-room : goal.pass_phase-requires-clause-room
@@ -78,25 +79,27 @@ pub returns-clause-counted : goal.returns-clause-counted
 returns-clause-counted g c =
     let phases : c.phases-last.result ≡ length (phases_of c.args.l.now) = c.phases-last.ensures.phases ∙ ap (λ (ps : List Phase). length ps) c.requires.plan.phases in
     let last : c.loop-p.p ≡ c.phases-last.result - 1 = omega (arith, c.loop-p-test.false, c.loop-p.auto.p-end) in
-    counted_last c.args.l.now c.args.m.now.rooms.order (c.phases-last.result - 1) (omega (arith, phases, c.phases-last.ensures.some)) c.loop-p.m.passages.least c.loop-p.m.passages.most
+    rw c.pass_phase.ensures.passages
+    (counted_last c.args.l.now c.args.m.now.rooms.order (c.phases-last.result - 1) (omega (arith, phases, c.phases-last.ensures.some)) c.loop-p.m.passages.least c.loop-p.m.passages.most
     c.hours.result c.loop-p.m.dwell.items c.loop-p.m.v.items c.pass_phase.new.m.dwell.items c.pass_phase.new.m.v.items
     (hours-at c.args.plan.now.phases c.args.l.now (c.phases-last.result - 1) c.hours.result (c.hours.ensures.hours no_phase) c.requires.plan.phases)
-    (rw last at c.loop-p.invariant.reached) (rw c.loop-p.invariant.order at c.pass_phase.ensures.passed.passes) (rw c.loop-p.invariant.order at c.pass_phase.ensures.passed.loses)
+    (rw last at c.loop-p.invariant.reached) (rw c.loop-p.invariant.order at c.pass_phase.ensures.passed.passes) (rw c.loop-p.invariant.order at c.pass_phase.ensures.passed.loses))
 
 pub returns-clause-lost : goal.returns-clause-lost
 returns-clause-lost g c =
     let phases : c.phases-last.result ≡ length (phases_of c.args.l.now) = c.phases-last.ensures.phases ∙ ap (λ (ps : List Phase). length ps) c.requires.plan.phases in
     let last : c.loop-p.p ≡ c.phases-last.result - 1 = omega (arith, c.loop-p-test.false, c.loop-p.auto.p-end) in
-    lost_last c.args.l.now c.args.m.now.rooms.order (c.phases-last.result - 1) (omega (arith, phases, c.phases-last.ensures.some)) c.loop-p.m.passages.least c.loop-p.m.passages.most
+    rw c.pass_phase.ensures.passages
+    (lost_last c.args.l.now c.args.m.now.rooms.order (c.phases-last.result - 1) (omega (arith, phases, c.phases-last.ensures.some)) c.loop-p.m.passages.least c.loop-p.m.passages.most
     c.hours.result c.loop-p.m.dwell.items c.loop-p.m.v.items c.pass_phase.new.m.dwell.items c.pass_phase.new.m.v.items
     (hours-at c.args.plan.now.phases c.args.l.now (c.phases-last.result - 1) c.hours.result (c.hours.ensures.hours no_phase) c.requires.plan.phases)
-    (rw last at c.loop-p.invariant.reached) (rw c.loop-p.invariant.order at c.pass_phase.ensures.passed.passes) (rw c.loop-p.invariant.order at c.pass_phase.ensures.passed.loses)
+    (rw last at c.loop-p.invariant.reached) (rw c.loop-p.invariant.order at c.pass_phase.ensures.passed.passes) (rw c.loop-p.invariant.order at c.pass_phase.ensures.passed.loses))
 
 pub returns-clause-few : goal.returns-clause-few
 returns-clause-few g c =
     let phases : c.phases-last.result ≡ length (phases_of c.args.l.now) = c.phases-last.ensures.phases ∙ ap (λ (ps : List Phase). length ps) c.requires.plan.phases in
     let last : c.loop-p.p ≡ c.phases-last.result - 1 = omega (arith, c.loop-p-test.false, c.loop-p.auto.p-end) in
-    omega (arith, c.loop-p.invariant.reached.few, last, phases, c.phases-last.ensures.some, length-phases_of c.args.l.now)
+    rw c.pass_phase.ensures.passages (omega (arith, c.loop-p.invariant.reached.few, last, phases, c.phases-last.ensures.some, length-phases_of c.args.l.now))
 
 pub returns-clause-steps : goal.returns-clause-steps
 returns-clause-steps g c =

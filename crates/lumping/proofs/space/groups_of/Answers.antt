@@ -11,10 +11,10 @@ loop-g-preserved c =
     c.in_ok-push.ensures.items ∙ ap (λ gs. gs ++ c.group.result ∷ []) c.loop-g.invariant ∙ ap (λ x. take c.loop-g.g (the_groups_of c.args.l.now.subsystems) ++ x ∷ []) (c.group.ensures c.group.result) ∙ sym more
 
 pub returns-in_err-groups-clause-sizes : goal.returns-in_err-groups-clause-sizes
-returns-in_err-groups-clause-sizes c = groups-few c.args.l.now c.len.ensures.valid
+returns-in_err-groups-clause-sizes c = groups-few c.args.l.now c.values_are_in_range.ensures
 
 pub returns-in_err-push-clause-sizes : goal.returns-in_err-push-clause-sizes
-returns-in_err-push-clause-sizes c = groups-few c.args.l.now c.len.ensures.valid
+returns-in_err-push-clause-sizes c = groups-few c.args.l.now c.values_are_in_range.ensures
 
 pub returns-clause-sizes : goal.returns-clause-sizes
-returns-clause-sizes c = groups-few c.args.l.now c.len.ensures.valid
+returns-clause-sizes c = groups-few c.args.l.now c.values_are_in_range.ensures

@@ -8,7 +8,7 @@ use Rattle.lumping.proofs.space.state_count.Goals as goal
 
 pub shares-requires : goal.shares-requires
 shares-requires c =
-    rw (c.group.ensures c.group.result) (groups-few c.args.l.now c.len.ensures.valid c.loop-g.g c.group.result (omega arith))
+    rw (c.group.ensures c.group.result) (groups-few c.args.l.now c.values_are_in_range.ensures c.loop-g.g c.group.result (omega arith))
 
 pub overflow_mul-count : goal.overflow_mul-count
 overflow_mul-count c =
@@ -17,7 +17,7 @@ overflow_mul-count c =
     omega (
       arith,
       small,
-      states-few c.args.l.now c.len.ensures.valid,
+      states-few c.args.l.now c.values_are_in_range.ensures,
       count-fits (groups_of c.args.l.now.subsystems) c.loop-g.g c.group.result _ inside (c.group.ensures c.group.result) c.loop-g.count c.shares.result _ c.shares.ensures.shares c.loop-g.invariant,
     )
 
@@ -37,4 +37,4 @@ unfolding states_of
 returns-clause-count c = all_counted c
 
 pub returns-clause-few : goal.returns-clause-few
-returns-clause-few c = omega (arith, all_counted c, states-few c.args.l.now c.len.ensures.valid)
+returns-clause-few c = omega (arith, all_counted c, states-few c.args.l.now c.values_are_in_range.ensures)

@@ -9,17 +9,17 @@ loop-i-preserved g c =
     let i = c.loop-i.invariant in
     record {
       end_size = c.set_row.ensures.size ∙ i.end_size;
-      dwell_size = c.set_row-in-loop-i.ensures.size ∙ i.dwell_size;
+      dwell_size = c.set_wide_row.ensures.size ∙ i.dwell_size;
       work = c.beat_from.ensures.work ∙ i.work;
       rows = λ k h. elim (cases_lt k c.loop-i.i) [
         | inl before ↦
             let ne : k ≢ c.loop-i.i = omega arith in
             let end : row_of c.set_row.new.self k ≡ row_of c.loop-i.end k = c.set_row.ensures.others k ne in
-            let dwell : row_of c.set_row-in-loop-i.new.self k ≡ row_of c.loop-i.dwell k = c.set_row-in-loop-i.ensures.others k ne in
+            let dwell : row_of c.set_wide_row.new.self k ≡ row_of c.loop-i.dwell k = c.set_wide_row.ensures.others k ne in
             rw (end, dwell) (i.rows k before)
         | inr after ↦
             let e : k ≡ c.loop-i.i = omega arith in
-            rw (e, c.set_row.ensures.row, c.set_row-in-loop-i.ensures.row) c.beat_from.ensures.rows
+            rw (e, c.set_row.ensures.row, c.set_wide_row.ensures.row) c.beat_from.ensures.rows
       ];
       steps = omega (arith, c.beat_from.ensures.steps, i.steps);
     }

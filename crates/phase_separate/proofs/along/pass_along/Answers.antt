@@ -7,7 +7,8 @@ use Rattle.product_chain.specs.Kept.{ChainValue}
 use Rattle.separate_laws.specs.Subsystems.{states_in}
 use Rattle.subsystem_power.specs.Powers.{PowerValue, IsPowerOf}
 use Rattle.phase_separate.specs.Subsystems.{beats_over}
-use Rattle.phase_separate.proofs.Passing.{IsNext, next_of, lengths, entries_small, none_passed, all_passed}
+use Rattle.dense_power.proofs.Pairs.{entries_of_rows}
+use Rattle.phase_separate.proofs.Passing.{IsNext, next_of, lengths, none_passed, all_passed}
 use Rattle.phase_separate.proofs.Passing.{others, width_fits, blocks_left, all_parts, turn, states_left}
 use Rattle.phase_separate.proofs.along.pass_along.Goals as goal
 
@@ -73,7 +74,7 @@ pass_one-requires-clause-small g c =
     let some : 0 < p.power = rw next.power c.requires.some in
     let beats : beats_over c.args.span p.power ≡ n = ap (λ (q : PowerValue). beats_over c.args.span q.power) next.power in
     let power : IsPowerOf p.chain 16 n c.matrix_of.result.now = rw beats at (c.matrix_of.ensures some) in
-    entries_small c.matrix_of.result.now (2 ^ 48) power.rows
+    entries_of_rows c.matrix_of.result.now (2 ^ 48) power.rows
 
 pub loop-subsystem-preserved : goal.loop-subsystem-preserved
 loop-subsystem-preserved g c =

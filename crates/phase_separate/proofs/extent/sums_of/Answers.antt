@@ -13,7 +13,7 @@ loop-i-preserved c =
     let d = c.subsystem.result.now in
     let inside : c.loop-i.i < length us = omega (arith, c.loop-i-test.true, c.len-i-end.ensures.len, c.loop-i.auto) in
     let is : IsSizeOf (slice_index_or us c.loop-i.i d) c.size_of-size.result = rw (c.subsystem.ensures d) at c.size_of-size.ensures in
-    let few : c.size_of-size.result.states ≤ 64 = omega (arith, c.if-size-gt-MOST_STATES.false) in
+    let few : c.size_of-size.result.states ≤ 64 = omega (arith, c.if-size.false) in
     record {
       sums = sums_more us c.loop-i.i d c.size_of-size.result c.loop-i.sums c.add.new.self inside c.loop-i.invariant.sums is few c.add.ensures;
       few = few_more us c.loop-i.i d c.size_of-size.result c.loop-i.sums c.add.new.self inside c.loop-i.invariant.sums is few c.add.ensures c.loop-i.invariant.few;

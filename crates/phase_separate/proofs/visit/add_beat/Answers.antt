@@ -13,7 +13,7 @@ pub returns-clause-visited : goal.returns-clause-visited
 returns-clause-visited g c =
     let ch : ChainValue = c.args.chain.now in
     let law : SeparateLaw (states_of ch.of.subsystems) (tick_list ch.of.subsystems (hours_of_beat ch)) (steps_at ch) =
-    separate ch c.columns.ensures.valid c.columns.ensures.timed in
+    separate ch c.beats_are_enough.ensures.valid c.beats_are_enough.ensures.timed in
     let passed : PassesAlong ch c.args.passed c.args.start.now c.pass_along.new.now.items =
     rw c.copy_from_slice.ensures.items at c.pass_along.ensures.passes in
     visited_more ch law c.args.start.now c.args.passed 1 c.args.visited.now c.args.start.now c.pass_along.new.now.items c.add_all.new.sums

@@ -11,7 +11,7 @@ use Rattle.product_chain.proofs.moves.moves_by_source.Goals as goal
 
 pub overflow_mul-len : goal.overflow_mul-len
 overflow_mul-len c =
-    let few : c.len.result ≤ 210 = omega (arith, events-few c.args.l.now c.mission.ensures.valid, ap length c.in_ok-events.ensures.listed) in
+    let few : c.len.result ≤ 210 = omega (arith, events-few c.args.l.now c.values_are_in_range.ensures, ap length c.in_ok-events.ensures.listed) in
     let most : c.size.result ≤ most_states = omega arith in
     omega (arith, mul-le-mul few most)
 
@@ -32,15 +32,15 @@ push_moves-requires-clause-few c =
       arith,
       ap length c.as_slice-in-loop-i-2.ensures.value,
       ap length c.in_ok-push_steps.ensures,
-      from-length c.args.l.now.subsystems c.mission.ensures.valid.subsystems c.loop-i.i,
-      events-few c.args.l.now c.mission.ensures.valid,
+      from-length c.args.l.now.subsystems c.values_are_in_range.ensures.subsystems c.loop-i.i,
+      events-few c.args.l.now c.values_are_in_range.ensures,
       c.loop-i.invariant.few,
     )
 
 pub push_moves-requires-clause-small : goal.push_moves-requires-clause-small
 push_moves-requires-clause-small c =
     let few = few-states c.args.l.now c.args.space.now c.size-i-end.result c.requires c.size-i-end.ensures.size c.size-i-end.ensures.few in
-    let kept = steps-kept c.args.l.now.subsystems c.mission.ensures.valid.subsystems c.loop-i.i in
+    let kept = steps-kept c.args.l.now.subsystems c.values_are_in_range.ensures.subsystems c.loop-i.i in
     rw (c.as_slice-in-loop-i-2.ensures.value, c.in_ok-push_steps.ensures)
     (λ k d h. (omega (arith, (kept k d h).source), omega (arith, (kept k d h).target, few)))
 
@@ -53,7 +53,7 @@ loop-i-preserved c = record {
   slow =
       c.in_ok-push_moves.ensures.slow c.args.l.now.subsystems
       (rw (c.as_slice-in-loop-i-2.ensures.value, c.in_ok-push_steps.ensures)
-      (slow-steps c.args.l.now.subsystems c.mission.ensures.valid.subsystems c.loop-i.i))
+      (slow-steps c.args.l.now.subsystems c.values_are_in_range.ensures.subsystems c.loop-i.i))
       c.loop-i.invariant.slow;
   numbered = c.in_ok-push_moves.ensures.numbered;
   few =
@@ -61,8 +61,8 @@ loop-i-preserved c = record {
         arith,
         ap length c.as_slice-in-loop-i-2.ensures.value,
         ap length c.in_ok-push_steps.ensures,
-        from-length c.args.l.now.subsystems c.mission.ensures.valid.subsystems c.loop-i.i,
-        events-few c.args.l.now c.mission.ensures.valid,
+        from-length c.args.l.now.subsystems c.values_are_in_range.ensures.subsystems c.loop-i.i,
+        events-few c.args.l.now c.values_are_in_range.ensures,
         c.in_ok-push_moves.ensures.few,
         c.loop-i.invariant.few,
       );

@@ -1,5 +1,5 @@
 use Rattle.std.proofs.Common.{◌≡◌, ◌++◌, ℕ, List, ap, ◌∙◌, append_assoc}
-use Rattle.std.specs.Prelude.{codes, string_bytes}
+use Rattle.std.specs.Prelude.{codes}
 use Rattle.sil_report.specs.Texts.{counts_text}
 use Rattle.sil_report.specs.FixedBy.{Interval, Counts, line_of_interval, lines_of_counts}
 use Rattle.sil_report.specs.Reports.{report_lines}

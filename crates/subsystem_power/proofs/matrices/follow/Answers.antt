@@ -8,7 +8,7 @@ pub mul_down-requires-clause-a_small : goal.mul_down-requires-clause-a_small
 mul_down-requires-clause-a_small g c = entries_of_rows c.args.first.now (2 ^ 48) c.requires.first_rows
 
 pub mul_down-requires-clause-b_small : goal.mul_down-requires-clause-b_small
-mul_down-requires-clause-b_small g c = powers.entries_of_rows c.args.second.now c.requires.second_rows
+mul_down-requires-clause-b_small g c = powers.entries_small c.args.second.now c.requires.second_rows
 
 pub returns-clause-power : goal.returns-clause-power
 returns-clause-power g c = λ chain m n some begins goes_on.

@@ -10,22 +10,22 @@ use Rattle.test_matrix.proofs.tables.all_tables.Goals as goal
 
 pub subsystem-requires : goal.subsystem-requires
 subsystem-requires c =
-    rw c.from.ensures (subsystem_inside c.args.l.now c.len.ensures.valid c.loop-g.g c.group.result
+    rw c.from.ensures (subsystem_inside c.args.l.now c.values_are_in_range.ensures c.loop-g.g c.group.result
     (omega (arith, c.groups-count.ensures.groups)) (c.group.ensures c.group.result))
 
 pub group_tables-requires-clause-room : goal.group_tables-requires-clause-room
 group_tables-requires-clause-room c = rw c.requires.space (record {
   room = omega (arith, c.requires.length);
   inside = omega (arith, c.groups-count.ensures.groups);
-  sizes = groups-few c.args.l.now c.len.ensures.valid;
+  sizes = groups-few c.args.l.now c.values_are_in_range.ensures;
 })
 
 pub group_tables-requires-clause-fault : goal.group_tables-requires-clause-fault
 group_tables-requires-clause-fault c =
     let inside : c.from.result < length c.args.l.now.subsystems =
-    rw c.from.ensures (subsystem_inside c.args.l.now c.len.ensures.valid c.loop-g.g c.group.result
+    rw c.from.ensures (subsystem_inside c.args.l.now c.values_are_in_range.ensures c.loop-g.g c.group.result
     (omega (arith, c.groups-count.ensures.groups)) (c.group.ensures c.group.result)) in
-    (in_range c.args.l.now c.len.ensures.valid c.from.result c.subsystem.result.now inside c.subsystem.ensures).figures.restart_fault
+    (in_range c.args.l.now c.values_are_in_range.ensures c.from.result c.subsystem.result.now inside c.subsystem.ensures).figures.restart_fault
 
 pub loop-g-preserved : goal.loop-g-preserved
 loop-g-preserved c =

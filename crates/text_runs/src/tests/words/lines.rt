@@ -1,7 +1,7 @@
 //! Lines of words, and what each asks for.
 
-/// Words that `|` separates, and after the arrow `usage`, or verb, number, band that is needed, mode, whether
-/// the series is watched, and name.
+/// Words that `|` separates, and after the arrow `usage`, or verb, number, band that is needed, mode, which watchers are asked
+/// for, and name. Of watchers the series counts 1, the peak 2 and the occupancy 4.
 pub(crate) const LINES: &str = "\
 | => usage
 check => usage
@@ -30,6 +30,34 @@ check|--seri|F1 => usage
 check|--serie|F1 => usage
 check|--SERIES|F1 => usage
 check|-series|F1 => usage
+check|--peak|F1 => check 0 - low 2 [F1]
+check|F1|--peak => check 0 - low 2 [F1]
+check|--occupancy|F1 => check 0 - low 4 [F1]
+check|F1|--occupancy|--peak => check 0 - low 6 [F1]
+check|--series|--peak|F1 => check 0 - low 3 [F1]
+check|--occupancy|F1|--series => check 0 - low 5 [F1]
+check|--series|--peak|--occupancy|F1 => check 0 - low 7 [F1]
+check|--series|--occupancy|--peak|F1 => check 0 - low 7 [F1]
+check|--peak|--series|--occupancy|F1 => check 0 - low 7 [F1]
+check|--peak|--occupancy|F1|--series => check 0 - low 7 [F1]
+check|F1|--occupancy|--series|--peak => check 0 - low 7 [F1]
+check|--occupancy|F1|--peak|--series => check 0 - low 7 [F1]
+check|--peak|F1|--peak => usage
+check|--occupancy|--series|--occupancy|F1 => usage
+check|--peak=1|F1 => usage
+check|--peak=|F1 => usage
+check|--occupancy=1|F1 => usage
+check|--peak|1 => check 0 - low 2 [1]
+check|--pea|F1 => usage
+check|--peaks|F1 => usage
+check|--Peak|F1 => usage
+check|--occup|F1 => usage
+check|-peak|F1 => usage
+check|-p|F1 => usage
+check|-o|F1 => usage
+check|--peak => usage
+check|--|--peak => check 0 - low 0 [--peak]
+check|F1|--|--occupancy => usage
 check|-s|F1 => usage
 check|--need|1|F1 => check 0 1 low 0 [F1]
 check|--need|2|F1 => check 0 2 low 0 [F1]
@@ -104,6 +132,7 @@ check|--series|F1|--need=3|--mode=low => check 0 3 low 1 [F1]
 check|--need|1|--mode|high|--series|--|- => check 0 1 high 1 [-]
 check|--need|1|--mode|high|--series => usage
 check|--need|1|--mode|high|--series|F1|F2 => usage
+check|--peak|--need=2|--mode|both|F1|--occupancy => check 0 2 both 6 [F1]
 check|--need=1=1|F1 => usage
 check|low => check 0 - low 0 [low]
 check|3 => check 0 - low 0 [3]
@@ -155,6 +184,8 @@ size|F1|F2 => usage
 size|F1|-- => size 0 - low 0 [F1]
 size|F1|--series => usage
 size|--series|F1 => usage
+size|--peak|F1 => usage
+size|F1|--occupancy => usage
 size|--need|1|F1 => usage
 size|--need=1|F1 => usage
 size|--mode=low|F1 => usage
@@ -198,6 +229,8 @@ gen|seven => usage
 gen|F1 => usage
 gen|٧ => usage
 gen|7|--series => usage
+gen|7|--peak => usage
+gen|--occupancy|7 => usage
 gen|--need=1|7 => usage
 gen|--mode=low|7 => usage
 gen|--help => usage
@@ -206,6 +239,9 @@ bench|7 => bench 7 - low 0 []
 bench|007 => bench 7 - low 0 []
 bench|7|--series => bench 7 - low 1 []
 bench|--series|7 => bench 7 - low 1 []
+bench|7|--peak => bench 7 - low 2 []
+bench|--occupancy|7 => bench 7 - low 4 []
+bench|--occupancy|7|--series|--peak => bench 7 - low 7 []
 bench|--need|3|7 => bench 7 3 low 0 []
 bench|7|--need|3 => bench 7 3 low 0 []
 bench|--need|3 => usage
@@ -221,6 +257,7 @@ bench|7|8 => usage
 bench|7|--need=5 => usage
 bench|7|--need=3|--need=3 => usage
 bench|7|--series|--series => usage
+bench|7|--peak|--occupancy|--peak => usage
 bench|--mode=low|--mode=low|7 => usage
 bench|--help => usage
 Check|F1 => usage

@@ -3,7 +3,7 @@
 mod lines;
 
 use lines::LINES;
-use sil_watch::WatcherKind;
+use sil_watch::{WatchSet, WatcherKind};
 use sil_words::{Ask, Mode, Verb, WordFault, read_words};
 use std::alloc::{AllocError, Global};
 use std::test::Fail;
@@ -42,6 +42,14 @@ fn mode_text(mode: Mode) -> &'static str {
     }
 }
 
+/// The watchers that are asked for, as the table of lines writes them.
+fn watch_number(asked: WatchSet) -> u8 {
+    let series = u8::from(asked.contains(WatcherKind::Series));
+    let peak = u8::from(asked.contains(WatcherKind::Peak));
+    let occupancy = u8::from(asked.contains(WatcherKind::Occupancy));
+    series + 2 * peak + 4 * occupancy
+}
+
 /// An answer as the table of lines writes it.
 fn answer_text(alloc: Global, answer: Result<Ask, WordFault>) -> Result<String, AllocError> {
     match answer {
@@ -53,7 +61,7 @@ fn answer_text(alloc: Global, answer: Result<Ask, WordFault>) -> Result<String, 
                 None => String::from_str(alloc, "-")?,
             };
             let mode = mode_text(ask.mode);
-            let watch = u8::from(ask.watch.contains(WatcherKind::Series));
+            let watch = watch_number(ask.watch);
             let name = ask.name.as_str();
             format!(in alloc; "{verb} {number} {need} {mode} {watch} [{name}]")
         }

@@ -14,11 +14,9 @@ pub dwell_all-requires-clause-mass : goal.dwell_all-requires-clause-mass
 dwell_all-requires-clause-mass g c =
     let of : c.self.inside.of.value ≡ c.args.phase.now.chain.now.of = c.self.view_is ∙ c.requires.same in
     let states : states_of c.self.inside.of.value.subsystems ≡ states_of c.args.phase.now.chain.now.of.subsystems = ap (λ (l : LoopValue). states_of l.subsystems) of in
-    let start : c.as_slice-6.result.now ≡ c.args.v.now =
-    c.as_slice-6.ensures.value ∙ with_items_is c.self.inside.start c.narrow.new.to (omega (arith, c.narrow.auto.to, c.self.invariant.start)) ∙ c.narrow.ensures in
-    let starts : IsSumOfStarts c.args.phase.now.chain.now c.args.phase.now.beats c.args.v.now c.lower_visited.new.visited = rw start at c.lower_visited.ensures.visited in
-    let visited : c.as_slice-7.result.now ≡ c.lower_visited.new.visited =
-    c.as_slice-7.ensures.value ∙ with_items_is (with_items c.self.inside.visited c.visit_all.new.visited) c.lower_visited.new.visited
+    let starts : IsSumOfStarts c.args.phase.now.chain.now c.args.phase.now.beats c.args.v.now c.lower_visited.new.visited = c.lower_visited.ensures.visited in
+    let visited : c.as_slice-4.result.now ≡ c.lower_visited.new.visited =
+    c.as_slice-4.ensures.value ∙ with_items_is (with_items c.self.inside.visited c.visit_all.new.visited) c.lower_visited.new.visited
     (omega (arith, starts.size, c.requires.v, states, c.self.invariant.visited)) in
     rw visited (omega (arith, starts.kept, mul-le-mul_left c.args.phase.now.beats c.requires.mass))
 
@@ -32,11 +30,9 @@ invariant_of-self g c =
           (ap loops_of (with_items_is (with_items c.self.inside.subsystems c.begin.new.subsystems) c.visit_all.new.subsystems
           (omega (arith, c.visit_all.auto.subsystems, c.begin.auto.subsystems, c.self.inside.subsystems.ok.0)) ∙ c.visit_all.ensures.subsystems)
           ∙ loops_at c.args.phase.now.chain.now c.args.phase.now.beats);
-      start = c.self.invariant.start;
       buffers = rw (← of) at c.lower_visited.ensures.buffers;
       visited = c.self.invariant.visited;
       later = c.self.invariant.later;
-      mean = c.self.invariant.mean;
     }
 
 pub returns-clause-passes : goal.returns-clause-passes
@@ -47,19 +43,15 @@ returns-clause-passes g c =
     λ k h. get_or-replicate (states_of c.args.phase.now.chain.now.of.subsystems) k 0 0 (omega (arith, blank)) in
     let of : c.self.inside.of.value ≡ c.args.phase.now.chain.now.of = c.self.view_is ∙ c.requires.same in
     let states : states_of c.self.inside.of.value.subsystems ≡ states_of c.args.phase.now.chain.now.of.subsystems = ap (λ (l : LoopValue). states_of l.subsystems) of in
-    let narrowed : c.narrow.new.to ≡ c.args.v.now = c.narrow.ensures in
-    let kept : (with_items c.self.inside.start c.narrow.new.to).items ≡ c.args.v.now =
-    with_items_is c.self.inside.start c.narrow.new.to (omega (arith, c.narrow.auto.to, c.self.invariant.start)) ∙ narrowed in
-    let start : c.as_slice-6.result.now ≡ c.args.v.now = c.as_slice-6.ensures.value ∙ kept in
-    let starts : IsSumOfStarts c.args.phase.now.chain.now c.args.phase.now.beats c.args.v.now c.lower_visited.new.visited = rw start at c.lower_visited.ensures.visited in
-    let begun : c.as_slice-3.result.now ≡ c.args.v.now = c.as_slice-3.ensures.value ∙ kept in
-    let later : c.widen.new.to ≡ c.pass_ends.new.later =
-    c.widen.ensures ∙ c.as_slice-4.ensures.value ∙ with_items_is c.self.inside.later c.pass_ends.new.later
+    let starts : IsSumOfStarts c.args.phase.now.chain.now c.args.phase.now.beats c.args.v.now c.lower_visited.new.visited = c.lower_visited.ensures.visited in
+    let later : c.as_slice-3.result.now ≡ c.pass_ends.new.later =
+    c.as_slice-3.ensures.value ∙ with_items_is c.self.inside.later c.pass_ends.new.later
     (omega (arith, c.pass_ends.auto.later, c.self.invariant.later)) in
-    let end : IsAtEnd c.args.phase.now.chain.now c.args.phase.now.beats c.args.v.now c.widen.new.to = rw later (rw begun at c.pass_ends.ensures.later) in
-    let visited : c.as_slice-7.result.now ≡ c.lower_visited.new.visited =
-    c.as_slice-7.ensures.value ∙ with_items_is (with_items c.self.inside.visited c.visit_all.new.visited) c.lower_visited.new.visited
+    let copied : c.copy_from_slice.new.self ≡ c.pass_ends.new.later = c.copy_from_slice.ensures.after ∙ later in
+    let end : IsAtEnd c.args.phase.now.chain.now c.args.phase.now.beats c.args.v.now c.copy_from_slice.new.self = rw copied c.pass_ends.ensures.later in
+    let visited : c.as_slice-4.result.now ≡ c.lower_visited.new.visited =
+    c.as_slice-4.ensures.value ∙ with_items_is (with_items c.self.inside.visited c.visit_all.new.visited) c.lower_visited.new.visited
     (omega (arith, starts.size, c.requires.v, states, c.self.invariant.visited)) in
     let dwelling : IsDwelling c.args.phase.now.chain.now c.args.phase.now.beats c.lower_visited.new.visited c.dwell_all.new.dwell = rw visited at c.dwell_all.ensures.dwell in
-    phase_passes c.args.phase.now.chain.now c.args.phase.now.beats c.requires.little c.args.v.now c.widen.new.to c.lower_visited.new.visited zeros c.dwell_all.new.dwell
+    phase_passes c.args.phase.now.chain.now c.args.phase.now.beats c.requires.little c.args.v.now c.copy_from_slice.new.self c.lower_visited.new.visited zeros c.dwell_all.new.dwell
     c.requires.mass (omega (arith, blank, c.requires.v)) none end starts dwelling

@@ -14,7 +14,7 @@ pub starts_of-requires-clause-below : goal.starts_of-requires-clause-below
 starts_of-requires-clause-below c =
     let size : c.size-size.result ≡ states_of c.args.l.now.subsystems = rw c.requires.space at c.size-size.ensures.size in
     rw (c.as_slice.ensures.value, size)
-    (targets-inside c.args.l.now.subsystems c.mission.ensures.valid.subsystems c.in_ok-moves.rates.items c.in_ok-moves.moves.items
+    (targets-inside c.args.l.now.subsystems c.values_are_in_range.ensures.subsystems c.in_ok-moves.rates.items c.in_ok-moves.moves.items
     c.in_ok-moves.ensures.steps)
 
 pub set_rates-requires-clause-some : goal.set_rates-requires-clause-some
@@ -33,7 +33,7 @@ set_rates-requires-clause-slow c =
 pub set_stays-requires-clause-sources : goal.set_stays-requires-clause-sources
 set_stays-requires-clause-sources c =
     let size : c.size-size.result ≡ states_of c.args.l.now.subsystems = rw c.requires.space at c.size-size.ensures.size in
-    let inside = sources-inside c.args.l.now.subsystems c.mission.ensures.valid.subsystems c.in_ok-moves.rates.items c.in_ok-moves.moves.items
+    let inside = sources-inside c.args.l.now.subsystems c.values_are_in_range.ensures.subsystems c.in_ok-moves.rates.items c.in_ok-moves.moves.items
     c.in_ok-moves.ensures.steps in
     rw (c.as_slice-2.ensures.value, c.as_mut_slice-2.ensures.value) (λ k d h. omega (arith, inside k d h, size, c.in_ok-stays.ensures.len))
 
@@ -63,7 +63,7 @@ invariant_of-result c =
     rw (c.of.ensures, rates_now, stays_now, starts_now)
     (timed-chain c.args.l.now c.args.hours c.args.beats c.requires.short c.in_ok-moves.rates.items c.in_ok-moves.moves.items
     c.in_ok-move_starts.move_starts.items c.set_stays.new.stays c.fill.new.starts c.fill.new.entries.items (vec_capacity c.fill.new.entries)
-    c.mission.ensures.valid few moves (omega (arith, size, c.in_ok-stays.ensures.len, ap length c.as_mut_slice-2.ensures.value))
+    c.values_are_in_range.ensures few moves (omega (arith, size, c.in_ok-stays.ensures.len, ap length c.as_mut_slice-2.ensures.value))
     c.set_rates.new.rates rates
     (rw (seen, c.as_slice-2.ensures.value) at c.set_stays.ensures)
     (rw stays_seen at c.fill.ensures.parts)

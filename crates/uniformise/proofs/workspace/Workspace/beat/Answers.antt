@@ -5,7 +5,7 @@ use Rattle.sil_model.specs.WeightTable.{weight_of, mean_weight_of}
 use Rattle.vector_laws.specs.Laws.{AreFloors}
 use Rattle.vector_laws.specs.Block.{IsGathered}
 use Rattle.uniformise.specs.Beat.{IsStep, tick_loss}
-use Rattle.uniformise.proofs.OneBeat.{IsEnd, IsDwell, end_of_beat, dwell_of_beat}
+use Rattle.uniformise.proofs.OneBeat.{IsEnd, IsDwell, end_of_beat, dwell_of_beat, sums_small}
 use Rattle.uniformise.proofs.workspace.Workspace.beat.Given.{Over}
 use Rattle.uniformise.proofs.workspace.Workspace.beat.Goals as goal
 
@@ -50,6 +50,13 @@ module _ (g : Over) (c : goal.After-slice_known-4-1 g) where
   the_dwell =
       dwell_of_beat c.args.chain.now c.args.weights.now c.gather.ensures.order.0 c.gather.ensures.order.1 c.args.v.now c.requires.mass
       c.gather.new.stays c.args.dwell.now c.add_rounded_down.new.to stays_gathered old_long c.add_rounded_down.ensures.size added c.requires.dwell
+
+pub round_down-requires-clause-small : goal.round_down-requires-clause-small
+round_down-requires-clause-small g c =
+    let ends : c.deref.result.now ≡ c.gather.new.ends = c.deref.ensures.value ∙ written _ c.gather.new.ends _ (omega arith) in
+    let gathered : IsGathered (IsStep c.args.chain.now) (tick_loss c.args.chain.now.of.subsystems) c.args.v.now c.gather.new.ends weight_of
+    (c.args.weights.now + 1) = rw c.copy_from_slice.ensures.items at c.gather.ensures.ends in
+    rw ends (sums_small c.args.chain.now c.args.weights.now c.gather.ensures.order.0 c.gather.ensures.order.1 c.args.v.now c.requires.mass c.gather.new.ends gathered)
 
 pub returns-clause-encloses : goal.returns-clause-encloses
 returns-clause-encloses g c = (the_end g c).weighed
